@@ -1,0 +1,99 @@
+-- The marked examples of document 01, one table of cases under one statement, which the checker computes from the definitions as they
+-- stand; and, below them, what a table is and is not. A reader can add a row and see.
+-- Assumes nothing.
+use Prim.Native.Nat.{ℕ, zero, suc}
+use mathlib.Core.Bool.{Bool, true, false, _&&_, not}
+use mathlib.Core.Path.{_≡_, refl}
+use mathlib.Core.List.{List, [], _∷_}
+use lib.Dec.{eqb}
+use Rattle.rules.specs.declared.Found.{Found}
+use Rattle.rules.specs.declared.Found.the-variants.{At, Absent}
+use Rattle.rules.specs.declared.Answer.{Answer}
+use Rattle.rules.specs.Lengths.{M, listed, afterAdd, afterRemove, join}
+use Rattle.rules.specs.Table.{unused, soundFrom, sound, lengthOf, held, shown, rank, foundOf, push, withLength, raised, heldWith, merged, newIds, rises}
+use Rattle.rules.specs.Operations.{queryAnswer, raiseRefusal, raiseAnswer, raiseTable, addAnswer, addTable, absorbAnswer, absorbTable, removeRefusal, removeAnswer, removeTable, mergeRefusal, mergeAnswer, mergeTable}
+
+abbrev pub all : List Bool → Bool
+all [] = true
+all (b ∷ bs) = b && all bs
+
+-- two lists of words are the same
+abbrev pub same : List ℕ → List ℕ → Bool
+same [] [] = true
+same [] (y ∷ ys) = false
+same (x ∷ xs) [] = false
+same (x ∷ xs) (y ∷ ys) = eqb x y && same xs ys
+
+-- an answer is accepted with a value; an answer is refused with a number, and 0 as the other result
+abbrev pub gives : Answer → ℕ → Bool
+gives a v = eqb (a .refusal) 0 && eqb (a .value) v
+
+abbrev pub refuses : Answer → ℕ → Bool
+refuses a r = eqb (a .refusal) r && eqb (a .value) 0
+
+abbrev pub isAt : Found → ℕ → Bool
+isAt (At j) i = eqb j i
+isAt Absent i = false
+
+-- ---- the tables of the examples
+abbrev pub empty : List ℕ
+empty = 0 ∷ 0 ∷ 0 ∷ 0 ∷ []
+
+-- {7: n}, with a place to spare
+abbrev pub seven : ℕ → List ℕ
+seven n = 7 ∷ n ∷ 0 ∷ 0 ∷ []
+
+-- {7: 2, 9: 1} at C = 3 and at C = 2, {7: 1, 8: 3}, and what they merge to
+abbrev pub seven-nine : List ℕ
+seven-nine = 7 ∷ 2 ∷ 9 ∷ 1 ∷ 0 ∷ 0 ∷ []
+
+abbrev pub seven-nine-full : List ℕ
+seven-nine-full = 7 ∷ 2 ∷ 9 ∷ 1 ∷ []
+
+abbrev pub seven-eight : List ℕ
+seven-eight = 7 ∷ 1 ∷ 8 ∷ 3 ∷ []
+
+abbrev pub seven-eight-nine : List ℕ
+seven-eight-nine = 7 ∷ 2 ∷ 8 ∷ 3 ∷ 9 ∷ 1 ∷ []
+
+unfoldable pub cases : List Bool
+cases =
+    -- P1 empty table, query 7: 0
+    gives (queryAnswer empty 7) 0
+    -- P2 add 7: 1
+    ∷ gives (addAnswer empty 7) 1 ∷ same (addTable empty 7) (seven 1)
+    -- P3 add 7 at length 1: 1, table the same
+    ∷ gives (addAnswer (seven 1) 7) 1 ∷ same (addTable (seven 1) 7) (seven 1)
+    -- P4 remove at 1: 2, entry kept
+    ∷ gives (removeAnswer M (seven 1) 7) 2 ∷ same (removeTable M (seven 1) 7) (seven 2)
+    -- P5 remove of an id never held: 0, table still empty
+    ∷ gives (removeAnswer M empty 7) 0 ∷ same (removeTable M empty 7) empty
+    -- P6 lengths 3 and 2 merge to 3
+    ∷ eqb (join 3 2) 3 ∷ eqb (join 2 3) 3 ∷ same (mergeTable (seven 3) (seven 2)) (seven 3) ∷ same (mergeTable (seven 2) (seven 3)) (seven 3)
+    -- P7 {7:2, 9:1} with {7:1, 8:3} gives {7:2, 8:3, 9:1}
+    ∷ same (mergeTable seven-nine seven-eight) seven-eight-nine
+    -- P8 at M, remove gives 7 and add returns M
+    ∷ refuses (removeAnswer M (seven M) 7) 7 ∷ same (removeTable M (seven M) 7) (seven M)
+    ∷ gives (addAnswer (seven M) 7) M ∷ same (addTable (seven M) 7) (seven M)
+    -- P9 add at M - 1 gives M
+    ∷ gives (addAnswer (seven 4294967294) 7) M ∷ same (addTable (seven 4294967294) 7) (seven M)
+    -- P10 C = 2 holding 7 and 8: delivering 9 gives 8; delivering 7 is accepted
+    ∷ refuses (absorbAnswer seven-eight 9 1) 8 ∷ same (absorbTable seven-eight 9 1) seven-eight
+    ∷ gives (absorbAnswer seven-eight 7 2) 2 ∷ same (absorbTable seven-eight 7 2) (7 ∷ 2 ∷ 8 ∷ 3 ∷ [])
+    -- P11 the merge P7 into the first returns 1 with C = 3 and is refused with 8 at C = 2
+    ∷ gives (mergeAnswer seven-nine seven-eight) 1
+    ∷ refuses (mergeAnswer seven-nine-full seven-eight) 8 ∷ same (mergeTable seven-nine-full seven-eight) seven-nine-full
+    -- what is a sound table: no entry, room to spare, id 0, the length M
+    ∷ sound M [] ∷ sound M empty ∷ sound M seven-nine ∷ sound M (0 ∷ 1 ∷ 1 ∷ 1 ∷ []) ∷ sound M (seven M)
+    -- and what is none: M + 1, ids that fall, an id twice, an id without a length, an entry after an unused place, an odd word
+    ∷ not (sound M (seven 4294967296)) ∷ not (sound M (9 ∷ 1 ∷ 7 ∷ 2 ∷ [])) ∷ not (sound M (7 ∷ 1 ∷ 7 ∷ 2 ∷ []))
+    ∷ not (sound M (seven 0)) ∷ not (sound M (0 ∷ 0 ∷ 7 ∷ 2 ∷ [])) ∷ not (sound M (7 ∷ 1 ∷ 0 ∷ [])) ∷ not (sound M (0 ∷ []))
+    -- what a table says
+    ∷ eqb (held seven-nine) 2 ∷ eqb (shown seven-nine) 1 ∷ eqb (shown seven-eight) 2
+    ∷ isAt (foundOf seven-nine 7) 0 ∷ isAt (foundOf seven-nine 9) 1 ∷ not (isAt (foundOf seven-nine 8) 1)
+    ∷ eqb (rises (seven 1) (seven 1)) 0 ∷ eqb (rises (seven 1) (seven 2)) 1
+    ∷ []
+
+pub cases-hold : all cases ≡ true
+unfolding cases listed afterAdd afterRemove unused soundFrom lengthOf held shown rank push withLength raised heldWith merged newIds rises raiseRefusal raiseAnswer raiseTable removeRefusal removeAnswer removeTable mergeRefusal mergeAnswer mergeTable
+cases-hold = refl

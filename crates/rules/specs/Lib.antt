@@ -1,0 +1,13 @@
+pub mod Lengths
+pub mod LengthLaws
+pub mod Table
+pub mod Operations
+pub mod Order
+pub mod View
+pub mod Law
+pub mod Update
+pub mod Places
+pub mod Insert
+pub mod Merge
+pub mod OperationLaws
+pub mod Cases
