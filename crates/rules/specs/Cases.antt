@@ -11,7 +11,7 @@ use Rattle.rules.specs.declared.Found.the-variants.{At, Absent}
 use Rattle.rules.specs.declared.Answer.{Answer}
 use Rattle.rules.specs.Lengths.{M, listed, afterAdd, afterRemove, join}
 use Rattle.rules.specs.Table.{unused, soundFrom, sound, lengthOf, held, shown, rank, foundOf, push, withLength, raised, heldWith, merged, newIds, rises}
-use Rattle.rules.specs.Operations.{queryAnswer, raiseRefusal, raiseAnswer, raiseTable, addAnswer, addTable, absorbAnswer, absorbTable, removeRefusal, removeAnswer, removeTable, mergeRefusal, mergeAnswer, mergeTable}
+use Rattle.rules.specs.Operations.{queryAnswer, raiseRefusal, raiseAnswer, raiseTable, addAnswer, addTable, absorbAnswer, absorbTable, removedLength, removeRefusal, removeAnswer, removeTable, mergeRefusal, mergeAnswer, mergeTable}
 
 abbrev pub all : List Bool → Bool
 all [] = true
@@ -95,5 +95,5 @@ cases =
     ∷ []
 
 pub cases-hold : all cases ≡ true
-unfolding cases listed afterAdd afterRemove unused soundFrom lengthOf held shown rank push withLength raised heldWith merged newIds rises raiseRefusal raiseAnswer raiseTable removeRefusal removeAnswer removeTable mergeRefusal mergeAnswer mergeTable
+unfolding cases listed afterAdd afterRemove unused soundFrom lengthOf held shown rank push withLength raised heldWith merged newIds rises raiseRefusal raiseAnswer raiseTable removedLength removeRefusal removeTable mergeRefusal mergeAnswer mergeTable
 cases-hold = refl

@@ -92,7 +92,11 @@ add-above-zero n = go (parity n)
     go (odd e p) = omega (arith, add-listed n e)
     go (even e p) = omega (arith, add-unlisted n e)
 
--- a remove of an id never held leaves 0
+-- the first add of an id gives 1, and a remove of an id never held leaves 0
+pub add-none : afterAdd 0 ≡ 1
+unfolding afterAdd listed
+add-none = refl
+
 pub remove-none : afterRemove 0 ≡ 0
 unfolding afterRemove listed
 remove-none = refl

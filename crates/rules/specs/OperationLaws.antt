@@ -13,7 +13,7 @@ use borrow.Author.Tests.{lt-ltb, le-ltb, ltb-false, eqb-true, eq-eqb, ne-eqb}
 use Rattle.rules.specs.Lengths.{M, listed, afterAdd, afterRemove, join, runsOut}
 use Rattle.rules.specs.LengthLaws.{add-rises, add-fits, remove-rises, remove-none, remove-runs-out, join-upper, join-least}
 use Rattle.rules.specs.Table.{sound, capacity, lengthOf, held, raised, heldWith, merged, newIds, rises, heldMerged}
-use Rattle.rules.specs.Operations.{accepted, outOfLengths, outOfRoom, unlessRefused, roomRefusal, raiseRefusal, raiseTable, addTable, absorbTable, removeRefusal, removeTable, mergeRefusal, mergeTable}
+use Rattle.rules.specs.Operations.{accepted, outOfLengths, outOfRoom, answer, unlessRefused, roomRefusal, raiseRefusal, raiseAnswer, raiseTable, addTable, absorbTable, removeRefusal, removeTable, mergeRefusal, mergeAnswer, mergeTable}
 use Rattle.rules.specs.Law.{of-most}
 use Rattle.rules.specs.Update.{Fitting, raised-length, raised-sound, raised-of, raised-held, held-fits, fitting-here}
 use Rattle.rules.specs.Merge.{Merged, merged-of}
@@ -31,6 +31,25 @@ room-within t k h = go (ltb (capacity t) k) refl
     go : (b : Bool) → ltb (capacity t) k ≡ b → k ≤ capacity t
     go true e = absurd (suc-ne-zero 7 (rw e at h))
     go false e = ltb-false (capacity t) k e
+
+-- ---- accepted and refused: the answer, and what is left in the table
+module _ (t : List ℕ) (e n : ℕ) where
+  pub raise-refused : capacity t < heldWith t e n → (raiseAnswer t e n ≡ answer outOfRoom n) × (raiseTable t e n ≡ t)
+  unfolding raiseAnswer raiseTable raiseRefusal
+  raise-refused h = rw (room-refused t (heldWith t e n) h) (refl, refl)
+
+  pub raise-accepted : heldWith t e n ≤ capacity t → (raiseAnswer t e n ≡ answer accepted n) × (raiseTable t e n ≡ raised t e n)
+  unfolding raiseAnswer raiseTable raiseRefusal
+  raise-accepted h = rw (room-accepted t (heldWith t e n) h) (refl, refl)
+
+module _ (t s : List ℕ) where
+  pub merge-refused : capacity t < heldMerged t s → (mergeAnswer t s ≡ answer outOfRoom (rises t s)) × (mergeTable t s ≡ t)
+  unfolding mergeAnswer mergeTable mergeRefusal
+  merge-refused h = rw (room-refused t (heldMerged t s) h) (refl, refl)
+
+  pub merge-accepted : heldMerged t s ≤ capacity t → (mergeAnswer t s ≡ answer accepted (rises t s)) × (mergeTable t s ≡ merged t s)
+  unfolding mergeAnswer mergeTable mergeRefusal
+  merge-accepted h = rw (room-accepted t (heldMerged t s) h) (refl, refl)
 
 -- ---- what holds of the table before and of the table after holds of what an operation leaves
 pub unless-keeps : (P : List ℕ → Type 0) (r : ℕ) {t u : List ℕ} → P t → (r ≡ accepted → P u) → P (unlessRefused r t u)
@@ -120,9 +139,9 @@ module _ (most : ℕ) (t : List ℕ) (e : ℕ) (ok : sound most t ≡ true) wher
           by (suc n) = rw (ne-eqb (lengthOf t e) 0 (λ z. omega (arith, z, q)))
 
 -- "7: remove at length M", exactly then
-pub remove-refused : (t : List ℕ) (e : ℕ) → sound M t ≡ true → removeRefusal M t e ≡ cond (eqb (lengthOf t e) M) outOfLengths accepted
+pub remove-refusal : (t : List ℕ) (e : ℕ) → sound M t ≡ true → removeRefusal M t e ≡ cond (eqb (lengthOf t e) M) outOfLengths accepted
 unfolding removeRefusal
-remove-refused t e ok = rw (remove-runs-out M (lengthOf t e) (of-most M t ok e) refl)
+remove-refusal t e ok = rw (remove-runs-out M (lengthOf t e) (of-most M t ok e) refl)
 
 -- ---- merge
 module _ (most : ℕ) (t s : List ℕ) (ok : sound most t ≡ true) (other : sound most s ≡ true) where

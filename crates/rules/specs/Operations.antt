@@ -67,11 +67,18 @@ absorbTable t e n = raiseTable t e (join (lengthOf t e) n)
 
 -- ---- remove: to the length after a remove, unless that is above the largest. It never needs room
 
-unfoldable pub removeRefusal : ℕ → List ℕ → ℕ → ℕ
-removeRefusal most t e = cond (runsOut most (afterRemove (lengthOf t e))) outOfLengths accepted
+abbrev pub lengthRefusal : ℕ → ℕ → ℕ
+lengthRefusal most n = cond (runsOut most n) outOfLengths accepted
 
-unfoldable pub removeAnswer : ℕ → List ℕ → ℕ → Answer
-removeAnswer most t e = answer (removeRefusal most t e) (afterRemove (lengthOf t e))
+-- the same of one length by itself
+unfoldable pub removedLength : ℕ → ℕ → Answer
+removedLength most n = answer (lengthRefusal most (afterRemove n)) (afterRemove n)
+
+unfoldable pub removeRefusal : ℕ → List ℕ → ℕ → ℕ
+removeRefusal most t e = lengthRefusal most (afterRemove (lengthOf t e))
+
+abbrev pub removeAnswer : ℕ → List ℕ → ℕ → Answer
+removeAnswer most t e = removedLength most (lengthOf t e)
 
 unfoldable pub removeTable : ℕ → List ℕ → ℕ → List ℕ
 removeTable most t e = unlessRefused (removeRefusal most t e) t (raised t e (afterRemove (lengthOf t e)))

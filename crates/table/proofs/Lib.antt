@@ -1,0 +1,7 @@
+pub mod Pairs
+pub mod Judging
+pub mod Search
+pub mod Shift
+pub mod Backwards
+pub mod Counting
+pub mod Raising

@@ -1,0 +1,13 @@
+-- `table::lengths::listed`: the code is the definition.
+-- Assumes nothing.
+use borrow.Author.Needs.{needs}
+use Rattle.rules.specs.Lengths.{listed}
+use Rattle.table.proofs.lengths.listed.Statement.{statement}
+use Rattle.table.proofs.lengths.listed.Tie as tie
+
+returns : tie.Need-returns
+unfolding listed
+returns c = search needs
+
+pub listed-spec : {M : Type 1} → statement M
+listed-spec = tie.close (tie.spec returns)

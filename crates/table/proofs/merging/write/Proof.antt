@@ -1,0 +1,47 @@
+-- `table::merging::write`: two stores.
+-- Assumes nothing.
+use lib.ListN.{length-set}
+use borrow.Author.Needs.{needs}
+use Rattle.table.proofs.merging.write.Statement.{statement}
+use Rattle.table.proofs.merging.write.Tie as tie
+
+mul-table : tie.Need-mul-table
+mul-table c = search needs
+
+mul-table-2 : tie.Need-mul-table-2
+mul-table-2 c = search needs
+
+slice-write-table : tie.Need-slice-write-table
+slice-write-table c = search needs
+
+mul-table-3 : tie.Need-mul-table-3
+mul-table-3 c = search needs
+
+add-table : tie.Need-add-table
+add-table c = search needs
+
+mul-table-4 : tie.Need-mul-table-4
+mul-table-4 c = search needs
+
+slice-write-table-2 : tie.Need-slice-write-table-2
+slice-write-table-2 c = simp length-set (search needs)
+
+same-length : tie.Need-same-length
+same-length c = simp length-set
+
+returns : tie.Need-returns
+returns c = search needs
+
+pub write-spec : {M : Type 1} → statement M
+write-spec =
+    tie.close
+    (tie.spec
+    mul-table
+    mul-table-2
+    slice-write-table
+    mul-table-3
+    add-table
+    mul-table-4
+    slice-write-table-2
+    same-length
+    returns)

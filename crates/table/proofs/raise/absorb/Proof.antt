@@ -1,0 +1,131 @@
+-- `table::raise::absorb`: the join where the id stands, and a new entry where it does not.
+-- Assumes nothing.
+use Prim.Native.Nat.{ℕ, _+_, _*_, _<_}
+use mathlib.Core.Path.{_≡_, sym, ap, _∙_}
+use mathlib.Core.List.{List}
+use lib.ListN.{length}
+use denote.Ref.{now}
+use Rattle.rules.specs.declared.Found.the-variants.{At, Absent}
+use Rattle.rules.specs.Table.{foundOf, lengthOf}
+use Rattle.rules.specs.Lengths.{join}
+use Rattle.table.proofs.Raising.{place, its, above-zero, raise-here, none, raise-none}
+use native.Mathlib.Omega.{arith}
+use borrow.Author.Needs.{needs}
+use Rattle.table.proofs.raise.absorb.Statement.{statement}
+use Rattle.table.proofs.raise.absorb.Tie as tie
+
+-- the place where the id stands, past the pattern that binds it
+abbrev start : tie.After-known-told → tie.Start
+start c = c .before .before .before .before .before .before
+
+abbrev T : tie.After-known-told → List ℕ
+T c = now (start c .args .table)
+
+abbrev I : tie.After-known-told → ℕ
+I c = c .before .i .given .0 .0
+
+found : (c : tie.After-known-told) → foundOf (T c) (start c .args .id) ≡ At (I c)
+found c = sym (c .before .before .before .lookup .ensures) ∙ c .before .i .given .1
+
+fits : (c : tie.After-known-told) → 2 * I c + 1 < length (T c)
+fits c = place (T c) (start c .args .id) (I c) (start c .pre) (found c)
+
+-- the id stands nowhere
+abbrev origin : tie.After-enum-told → tie.Start
+origin c = c .before .before .before .before .before
+
+absent : (c : tie.After-enum-told) → foundOf (now (origin c .args .table)) (origin c .args .id) ≡ Absent
+absent c = sym (c .before .before .lookup .ensures) ∙ c .enum-told .given .1
+
+lookup-requires : tie.Need-lookup-requires
+lookup-requires c κs = search needs
+
+enum-known-i : tie.Need-enum-known-i
+enum-known-i c = search needs
+
+mul-join : tie.Need-mul-join
+mul-join c = omega (arith, fits c)
+
+add-join : tie.Need-add-join
+add-join c = omega (arith, fits c)
+
+mul-join-2 : tie.Need-mul-join-2
+mul-join-2 c = omega (arith, fits c)
+
+slice-read-join : tie.Need-slice-read-join
+slice-read-join c = fits (c .before)
+
+join-requires : tie.Need-join-requires
+join-requires c κs = search needs
+
+mul-table : tie.Need-mul-table
+mul-table c = omega (arith, fits (c .before .before))
+
+add-table : tie.Need-add-table
+add-table c = omega (arith, fits (c .before .before))
+
+mul-table-2 : tie.Need-mul-table-2
+mul-table-2 c = omega (arith, fits (c .before .before))
+
+slice-write-table : tie.Need-slice-write-table
+slice-write-table c = fits (c .before .before)
+
+same-length : tie.Need-same-length
+same-length c = search needs
+
+returns : tie.Need-returns
+returns c =
+    let k = c .before .before in
+    let n = start k .args .length in
+    raise-here (T k) _ (I k) (start k .pre) (found k) (c .join .result) _
+    (c .join .ensures ∙ ap (λ (m : ℕ). join m n) (its (T k) _ (I k) (start k .pre) (found k))) (omega (arith, above-zero (T k) (start k .args .id) (I k) (start k .pre) (found k)))
+
+enum-told : tie.Need-enum-told
+enum-told c = search needs
+
+same-length-2 : tie.Need-same-length-2
+same-length-2 c = search needs
+
+returns-2 : tie.Need-returns-2
+returns-2 c =
+    let k = c .before in
+    let zero : join (lengthOf (now (origin k .args .table)) (origin k .args .id)) (origin k .args .length) ≡ 0 = omega (arith, none _ _ (origin k .pre) (absent k)) in
+    rw zero (raise-none _ _ (origin k .pre) (absent k))
+
+enter-requires : tie.Need-enter-requires
+enter-requires c κs =
+    let k = c .before .before in
+    (origin k .pre, (none _ _ (origin k .pre) (absent k), omega arith))
+
+same-length-3 : tie.Need-same-length-3
+same-length-3 c = search needs
+
+returns-3 : tie.Need-returns-3
+returns-3 c =
+    let k = c .before .before .before .before .before in
+    let its-own : join (lengthOf (now (origin k .args .table)) (origin k .args .id)) (origin k .args .length) ≡ origin k .args .length = omega (arith, none _ _ (origin k .pre) (absent k)) in
+    rw its-own (c .before .before .enter .ensures)
+
+pub absorb-spec : {M : Type 1} → statement M
+absorb-spec =
+    tie.close
+    (tie.spec
+    lookup-requires
+    enum-known-i
+    mul-join
+    add-join
+    mul-join-2
+    slice-read-join
+    join-requires
+    mul-table
+    add-table
+    mul-table-2
+    slice-write-table
+    same-length
+    returns
+    enum-told
+    same-length-2
+    returns-2
+    enter-requires
+    same-length-3
+    returns-3)

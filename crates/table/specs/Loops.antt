@@ -1,0 +1,28 @@
+-- What the loops of this crate compute, turn by turn: only contracts of its own helpers cite these.
+-- Assumes nothing.
+use Prim.Native.Nat.{ℕ, zero, suc, _+_, _*_}
+use mathlib.Core.Bool.{Bool, true, false, _&&_, not}
+use mathlib.Core.List.{List, [], _∷_}
+use lib.ListN.{drop, set}
+use lib.Dec.{leb, ltb, eqb}
+use Rattle.rules.specs.Table.{idAt, lengthAt}
+
+-- the first k entries: each length 1 to `most`, each id above the one before
+unfoldable pub entriesGood : ℕ → List ℕ → ℕ → Bool
+entriesGood most t zero = true
+entriesGood most t (suc zero) = not (eqb (lengthAt t 0) 0) && leb (lengthAt t 0) most
+entriesGood most t (suc (suc i)) =
+    entriesGood most t (suc i) && ltb (idAt t i) (idAt t (suc i)) && not (eqb (lengthAt t (suc i)) 0) && leb (lengthAt t (suc i)) most
+
+-- every word of a list is 0
+unfoldable pub zeros : List ℕ → Bool
+zeros [] = true
+zeros (w ∷ t) = eqb w 0 && zeros t
+
+-- every word from place n on is 0
+abbrev pub allZero : List ℕ → ℕ → Bool
+allZero t n = zeros (drop n t)
+
+-- the list with the entry (e, n) at place i
+abbrev pub entry : List ℕ → ℕ → ℕ → ℕ → List ℕ
+entry u i e n = set (set u (2 * i) e) (2 * i + 1) n
