@@ -4,6 +4,7 @@ mod find;
 mod judge;
 mod lengths;
 mod merging;
+mod places;
 mod raise;
 
 pub use find::lookup;

@@ -1,6 +1,7 @@
 // A whole table joined in: counted first, then filled from the last place backwards, so that each entry is placed once.
 use crate::judge::held;
 use crate::lengths::join;
+use crate::places::write;
 use rules::Answer;
 ghost use mathlib.Core.Path.{_≡_};
 ghost use Prim.Native.Nat.{_+_, _*_, _≤_};
@@ -9,7 +10,6 @@ ghost use lib.Dec.{ltb};
 ghost use lib.ListN.{length as size};
 ghost use Rattle.rules.specs.Table.{SoundTable, merged, heldMerged, rises};
 ghost use Rattle.rules.specs.Operations.{mergeAnswer, mergeTable};
-ghost use Rattle.table.specs.Loops.{entry};
 
 // What a merge comes to: the entries that the table ends with, and the lengths that rise.
 struct Tally {
@@ -61,15 +61,6 @@ fn count(table: &[u64], entries: &[u64]) -> Tally
         held: total,
         rises: risen,
     }
-}
-
-// One entry is written at a place.
-fn write(table: &mut [u64], place: usize, id: u64, length: u64)
-    requires { ⌜ 2 * place + 2 ≤ size (now table) ⌝ }
-    ensures { λ _. ⌜ now (table .exit) ≡ entry (now (table .entry)) place id length ⌝ }
-{
-    table[2 * place] = id;
-    table[2 * place + 1] = length;
 }
 
 // The table is filled from the back until no entry is left to join in: what is left of the table then stands in its place.

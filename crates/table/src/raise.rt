@@ -4,6 +4,7 @@ use crate::judge::held;
 use crate::lengths::after_add;
 use crate::lengths::after_remove;
 use crate::lengths::join;
+use crate::places::write;
 use rules::Answer;
 use rules::Found;
 ghost use mathlib.Core.Path.{_≡_};
@@ -29,12 +30,10 @@ fn insert(table: &mut [u64], used: usize, id: u64, length: u64)
             break;
         }
         let moved = table[2 * p + 1];
-        table[2 * i] = before;
-        table[2 * i + 1] = moved;
+        write(table, i, before, moved);
         i = p;
     }
-    table[2 * i] = id;
-    table[2 * i + 1] = length;
+    write(table, i, id, length);
 }
 
 // The same where there is room, and refused where every place is used.

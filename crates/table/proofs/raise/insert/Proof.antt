@@ -3,7 +3,6 @@
 use Prim.Native.Nat.{ℕ, _+_, _*_, _-_, _≤_, _<_, suc}
 use mathlib.Core.Path.{_≡_, sym, _∙_}
 use mathlib.Core.Logic.{_⊎_, ⊎-elim, inl, inr}
-use lib.ListN.{length-set}
 use denote.Ref.{now}
 use Rattle.rules.specs.Lengths.{M}
 use Rattle.rules.specs.Table.{held, raised}
@@ -35,7 +34,7 @@ room : (c : tie.Start Inv-loop μ-loop) → 2 * held (now (c .args .table)) + 2 
 room c = omega (arith, c .pre .1 .0, c .pre .1 .1 .0)
 
 loop-holds : tie.Need-loop-holds Inv-loop μ-loop
-loop-holds c = rw (c .pre .1 .0) (shift-start (w c) _ _ (c .pre .1 .1 .1 .1) (fits c) (room c) (c .pre .1 .1 .1 .0))
+loop-holds c = let a = c .before in rw (a .pre .1 .0) (shift-start (w a) _ _ (a .pre .1 .1 .1 .1) (fits a) (room a) (a .pre .1 .1 .1 .0))
 
 sub-p : tie.Need-sub-p Inv-loop μ-loop
 sub-p c = search needs
@@ -61,66 +60,34 @@ mul-moved-2 c = search needs
 slice-read-moved : tie.Need-slice-read-moved Inv-loop μ-loop
 slice-read-moved c = search needs
 
-mul-table : tie.Need-mul-table Inv-loop μ-loop
-mul-table c = search needs
-
-mul-table-2 : tie.Need-mul-table-2 Inv-loop μ-loop
-mul-table-2 c = search needs
-
-slice-write-table : tie.Need-slice-write-table Inv-loop μ-loop
-slice-write-table c = search needs
-
-mul-table-3 : tie.Need-mul-table-3 Inv-loop μ-loop
-mul-table-3 c = search needs
-
-add-table : tie.Need-add-table Inv-loop μ-loop
-add-table c = search needs
-
-mul-table-4 : tie.Need-mul-table-4 Inv-loop μ-loop
-mul-table-4 c = search needs
-
-slice-write-table-2 : tie.Need-slice-write-table-2 Inv-loop μ-loop
-slice-write-table-2 c = simp length-set (search needs)
+write-requires : tie.Need-write-requires Inv-loop μ-loop
+write-requires c κs = search needs
 
 loop-less : tie.Need-loop-less Inv-loop μ-loop
 loop-less c = search needs
 
 loop-again : tie.Need-loop-again Inv-loop μ-loop
 loop-again c =
-    let l = c .before .before .before .before in
-    let a = l .before in
-    shift-more (w a) _ _ (a .pre .1 .1 .1 .1) (fits a) (room a) (a .pre .1 .1 .1 .0) _ _ (l .loop .inv) _ (omega arith) (c .before .if1 .left)
+    let e = c .before .before .before .before .before in
+    let l = e .before .before .before in
+    let a = l .before .before in
+    rw (c .before .before .write .ensures)
+    (shift-more (w a) _ _ (a .pre .1 .1 .1 .1) (fits a) (room a) (a .pre .1 .1 .1 .0) _ _ (l .loop .inv) _ (omega arith) (e .if1 .left))
 
-mul-table-5 : tie.Need-mul-table-5 Inv-loop μ-loop
-mul-table-5 c = search needs
-
-mul-table-6 : tie.Need-mul-table-6 Inv-loop μ-loop
-mul-table-6 c = search needs
-
-slice-write-table-3 : tie.Need-slice-write-table-3 Inv-loop μ-loop
-slice-write-table-3 c = search needs
-
-mul-table-7 : tie.Need-mul-table-7 Inv-loop μ-loop
-mul-table-7 c = search needs
-
-add-table-2 : tie.Need-add-table-2 Inv-loop μ-loop
-add-table-2 c = search needs
-
-mul-table-8 : tie.Need-mul-table-8 Inv-loop μ-loop
-mul-table-8 c = search needs
-
-slice-write-table-4 : tie.Need-slice-write-table-4 Inv-loop μ-loop
-slice-write-table-4 c = simp length-set (search needs)
+write-requires-2 : tie.Need-write-requires-2 Inv-loop μ-loop
+write-requires-2 c κs = search needs
 
 same-length : tie.Need-same-length Inv-loop μ-loop
 same-length c = search needs
 
 returns : tie.Need-returns Inv-loop μ-loop
 returns c =
-    let l = c .before in
-    let a = l .before in
-    shift-end (w a) _ _ (a .pre .1 .1 .1 .1) (fits a) (room a) (a .pre .1 .1 .1 .0) _ _ (l .loop .inv)
-    (⊎-elim (λ v. inl (omega arith)) (λ v. inr (l .loop .i - 1, omega arith, v .2 .taken)) (c .loop-test .came))
+    let e = c .before .before .before .before in
+    let l = e .before in
+    let a = l .before .before in
+    c .before .before .write2 .ensures
+    ∙ shift-end (w a) _ _ (a .pre .1 .1 .1 .1) (fits a) (room a) (a .pre .1 .1 .1 .0) _ _ (l .loop .inv)
+    (⊎-elim (λ v. inl (omega arith)) (λ v. inr (l .loop .i - 1, omega arith, v .2 .taken)) (e .loop-test .came))
 
 pub insert-spec : {M : Type 1} → statement M
 insert-spec =
@@ -137,21 +104,9 @@ insert-spec =
     add-moved
     mul-moved-2
     slice-read-moved
-    mul-table
-    mul-table-2
-    slice-write-table
-    mul-table-3
-    add-table
-    mul-table-4
-    slice-write-table-2
+    write-requires
     loop-less
     loop-again
-    mul-table-5
-    mul-table-6
-    slice-write-table-3
-    mul-table-7
-    add-table-2
-    mul-table-8
-    slice-write-table-4
+    write-requires-2
     same-length
     returns)

@@ -1,9 +1,9 @@
--- `table::merging::write`: two stores.
+-- `table::places::write`: two stores.
 -- Assumes nothing.
 use lib.ListN.{length-set}
 use borrow.Author.Needs.{needs}
-use Rattle.table.proofs.merging.write.Statement.{statement}
-use Rattle.table.proofs.merging.write.Tie as tie
+use Rattle.table.proofs.places.write.Statement.{statement}
+use Rattle.table.proofs.places.write.Tie as tie
 
 mul-table : tie.Need-mul-table
 mul-table c = search needs
