@@ -11,3 +11,5 @@ pub mod Insert
 pub mod Merge
 pub mod OperationLaws
 pub mod Cases
+pub mod Parcels
+pub mod Ledgers

@@ -14,3 +14,46 @@ pub struct Answer {
     pub refusal: u32,
     pub value: u64,
 }
+
+// The sizes of a run, named at each call: the number of sites, and how many entries a table has room for.
+pub struct Run {
+    pub sites: u64,
+    pub capacity: u64,
+}
+
+// One slot of the parcel list: an update under way to a site, or all 0 where the slot is free.
+#[repr(C)]
+pub struct Parcel {
+    pub site: u64,
+    pub id: u64,
+    pub length: u64,
+}
+
+// The counts of updates: sent, copied, absorbed, lost. How many wait is not stored.
+#[repr(C)]
+pub struct Ledger {
+    pub sent: u64,
+    pub copied: u64,
+    pub absorbed: u64,
+    pub lost: u64,
+}
+
+// What one pass over the slots tells: whether each is free or rightly occupied, how many are occupied, and the lowest free one, or the number
+// of slots where none is free.
+pub struct Scan {
+    pub sound: bool,
+    pub waiting: u64,
+    pub free: usize,
+}
+
+// The eight steps of a run.
+pub enum Step {
+    Add { site: u64, id: u64 },
+    Remove { site: u64, id: u64 },
+    Query { site: u64, id: u64 },
+    Send { from: u64, to: u64, id: u64 },
+    Merge { from: u64, to: u64 },
+    Deliver { slot: u64 },
+    Again { slot: u64 },
+    Lose { slot: u64 },
+}
