@@ -13,3 +13,4 @@ pub mod OperationLaws
 pub mod Cases
 pub mod Parcels
 pub mod Ledgers
+pub mod Runs

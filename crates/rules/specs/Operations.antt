@@ -31,9 +31,12 @@ abbrev pub unlessRefused : ℕ → List ℕ → List ℕ → List ℕ
 unlessRefused zero before after = after
 unlessRefused (suc r) before after = before
 
--- refused where the entries that are needed are more than the table has room for
+-- the entries that are needed are more than the table has room for
+abbrev pub crowded : List ℕ → ℕ → Bool
+crowded t needed = ltb (capacity t) needed
+
 abbrev pub roomRefusal : List ℕ → ℕ → ℕ
-roomRefusal t needed = cond (ltb (capacity t) needed) outOfRoom accepted
+roomRefusal t needed = cond (crowded t needed) outOfRoom accepted
 
 -- ---- query
 
