@@ -11,12 +11,13 @@ use Rattle.rules.specs.declared.Run.{Run}
 use Rattle.rules.specs.declared.Parcel.{Parcel}
 use Rattle.rules.specs.declared.Ledger.{Ledger}
 use Rattle.rules.specs.declared.Scan.{Scan}
+use Rattle.rules.specs.declared.Sight.{Sight}
 use Rattle.rules.specs.declared.Step.{Step}
 use Rattle.rules.specs.declared.Step.the-variants.{Add, Remove, Query, Send, Merge, Deliver, Again, Lose}
 use Rattle.rules.specs.Lengths.{M, afterAdd, afterRemove, join, runsOut}
 use Rattle.rules.specs.Table.{sound, lengthOf, heldWith, heldMerged, rises}
 use Rattle.rules.specs.Operations.{answer, crowded, addTable, absorbTable, removeTable, mergeTable}
-use Rattle.rules.specs.Parcels.{noParcel, isFree, scanOf, cleared}
+use Rattle.rules.specs.Parcels.{noParcel, isOccupied, scanOf, cleared}
 use Rattle.rules.specs.Ledgers.{ledgerSound, raisedLedger, emptyLedger, noCounter, sentCounter, copiedCounter, absorbedCounter, lostCounter}
 
 -- the words, the slots and the ledger
@@ -49,10 +50,10 @@ tablesSound most w zero ws = true
 tablesSound most w (suc n) ws = sound most (take w ws) && tablesSound most w n (drop w ws)
 
 -- every table, slot and the ledger is as laid out
-unfoldable pub allSound : Run → List ℕ → Scan → Ledger → Bool
-allSound run ws scan l = tablesSound M (width run) (run .sites) ws && (scan .sound && ledgerSound M (scan .waiting) l)
+unfoldable pub allSound : Run → List ℕ → Sight → Bool
+allSound run ws si = tablesSound M (width run) (run .sites) ws && (si .scan .sound && ledgerSound M (si .scan .waiting) (si .ledger))
 
--- ---- what a step sees of the slots
+-- ---- what a step sees besides the words
 -- the slot that a step names
 unfoldable pub slotOf : Step → ℕ
 slotOf (Add k e) = 0
@@ -64,14 +65,14 @@ slotOf (Deliver i) = i
 slotOf (Again i) = i
 slotOf (Lose i) = i
 
--- what one pass over them tells, the parcel in the slot that the step names, and how many slots there are
-pub record Sight : Type 0 where
-  pub scan : Scan
-  pub named : Parcel
-  pub count : ℕ
-
-abbrev pub sightOf : Run → List Parcel → Step → Sight
-sightOf run ss step = record { scan = scanOf M (run .sites) ss; named = getD ss (slotOf step) noParcel; count = length ss }
+-- what one pass over them tells, the parcel in the slot that the step names, and how many slots there are; and the ledger
+abbrev pub sightOf : Run → State → Step → Sight
+sightOf run s step = record {
+  scan = scanOf M (run .sites) (s .slots);
+  named = getD (s .slots) (slotOf step) noParcel;
+  count = length (s .slots);
+  ledger = s .ledger;
+}
 
 -- ---- the refusals: a number with its condition, in the order of the tests
 pub record Test : Type 0 where
@@ -91,9 +92,9 @@ firstGiven (t ∷ ts) = cond (t .given) (t .number) (firstGiven ts)
 abbrev pub outside : Run → ℕ → Bool
 outside run k = leb (run .sites) k
 
--- 5: a slot number at or above the slot count, or that slot free
-abbrev pub nothingThere : Sight → ℕ → Bool
-nothingThere si i = leb (si .count) i || isFree (si .named)
+-- 5: a slot number at or above the slot count, or that slot free. In a state that 2 has judged, free is what is not occupied
+abbrev pub nothingThere : Run → Sight → ℕ → Bool
+nothingThere run si i = leb (si .count) i || not (isOccupied M (run .sites) (si .named))
 
 -- 6: the sender's length for the id is 0
 abbrev pub unheld : Run → List ℕ → ℕ → ℕ → Bool
@@ -122,25 +123,25 @@ abbrev pub lengthDelivered : Run → List ℕ → Parcel → ℕ
 lengthDelivered run ws p = join (lengthOf (tableAt run ws (p .site)) (p .id)) (p .length)
 
 -- what is tested once the state is judged
-abbrev pub stepTests : Run → List ℕ → Sight → Ledger → Step → List Test
-stepTests run ws si l (Add k e) = (3 when outside run k) ∷ (8 when noRoom run ws k e (lengthAdded run ws k e)) ∷ []
-stepTests run ws si l (Remove k e) = (3 when outside run k) ∷ (7 when wornOut run ws k e) ∷ []
-stepTests run ws si l (Query k e) = (3 when outside run k) ∷ []
-stepTests run ws si l (Send f t e) =
+abbrev pub stepTests : Run → List ℕ → Sight → Step → List Test
+stepTests run ws si (Add k e) = (3 when outside run k) ∷ (8 when noRoom run ws k e (lengthAdded run ws k e)) ∷ []
+stepTests run ws si (Remove k e) = (3 when outside run k) ∷ (7 when wornOut run ws k e) ∷ []
+stepTests run ws si (Query k e) = (3 when outside run k) ∷ []
+stepTests run ws si (Send f t e) =
     (3 when (outside run f || outside run t)) ∷ (4 when eqb f t) ∷ (6 when unheld run ws f e) ∷ (9 when noFreeSlot si)
-    ∷ (10 when eqb (l .sent) M) ∷ []
-stepTests run ws si l (Merge f t) =
+    ∷ (10 when eqb (si .ledger .sent) M) ∷ []
+stepTests run ws si (Merge f t) =
     (3 when (outside run f || outside run t)) ∷ (4 when eqb f t) ∷ (8 when noRoomForAll run ws f t) ∷ []
-stepTests run ws si l (Deliver i) =
-    (5 when nothingThere si i) ∷ (8 when noRoom run ws (si .named .site) (si .named .id) (lengthDelivered run ws (si .named)))
-    ∷ (10 when eqb (l .absorbed) M) ∷ []
-stepTests run ws si l (Again i) = (5 when nothingThere si i) ∷ (9 when noFreeSlot si) ∷ (10 when eqb (l .copied) M) ∷ []
-stepTests run ws si l (Lose i) = (5 when nothingThere si i) ∷ (10 when eqb (l .lost) M) ∷ []
+stepTests run ws si (Deliver i) =
+    (5 when nothingThere run si i) ∷ (8 when noRoom run ws (si .named .site) (si .named .id) (lengthDelivered run ws (si .named)))
+    ∷ (10 when eqb (si .ledger .absorbed) M) ∷ []
+stepTests run ws si (Again i) = (5 when nothingThere run si i) ∷ (9 when noFreeSlot si) ∷ (10 when eqb (si .ledger .copied) M) ∷ []
+stepTests run ws si (Lose i) = (5 when nothingThere run si i) ∷ (10 when eqb (si .ledger .lost) M) ∷ []
 
 -- "1 and 2 judge all three", before anything else
-unfoldable pub refusalIn : Run → List ℕ → Sight → Ledger → Step → ℕ
-refusalIn run ws si l step =
-    firstGiven ((1 when not (sizesRight run (length ws) (si .count))) ∷ (2 when not (allSound run ws (si .scan) l)) ∷ stepTests run ws si l step)
+unfoldable pub refusalIn : Run → List ℕ → Sight → Step → ℕ
+refusalIn run ws si step =
+    firstGiven ((1 when not (sizesRight run (length ws) (si .count))) ∷ (2 when not (allSound run ws si)) ∷ stepTests run ws si step)
 
 -- ---- what an accepted step returns, and what it changes
 unfoldable pub valueIn : Run → List ℕ → Sight → Step → ℕ
@@ -198,10 +199,10 @@ counterOf (Lose i) = lostCounter
 
 -- ---- the three that the contract of `step` cites
 unfoldable pub refusalOf : Run → State → Step → ℕ
-refusalOf run s step = refusalIn run (s .words) (sightOf run (s .slots) step) (s .ledger) step
+refusalOf run s step = refusalIn run (s .words) (sightOf run s step) step
 
 unfoldable pub valueOf : Run → State → Step → ℕ
-valueOf run s step = valueIn run (s .words) (sightOf run (s .slots) step) step
+valueOf run s step = valueIn run (s .words) (sightOf run s step) step
 
 abbrev pub answerOf : Run → State → Step → Answer
 answerOf run s step = answer (refusalOf run s step) (valueOf run s step)
@@ -209,8 +210,8 @@ answerOf run s step = answer (refusalOf run s step) (valueOf run s step)
 -- the state of an accepted step
 abbrev pub moved : Run → State → Step → State
 moved run s step = record {
-  words = wordsIn run (s .words) (sightOf run (s .slots) step) step;
-  slots = set (s .slots) (placeIn (sightOf run (s .slots) step) step) (parcelIn run (s .words) (sightOf run (s .slots) step) step);
+  words = wordsIn run (s .words) (sightOf run s step) step;
+  slots = set (s .slots) (placeIn (sightOf run s step) step) (parcelIn run (s .words) (sightOf run s step) step);
   ledger = raisedLedger M (counterOf step) (s .ledger);
 }
 

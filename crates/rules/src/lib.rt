@@ -46,6 +46,15 @@ pub struct Scan {
     pub free: usize,
 }
 
+// What a step sees besides the words: what one pass over the slots told, the parcel in the slot that the step names, how many slots there are,
+// and the ledger.
+pub struct Sight {
+    pub scan: Scan,
+    pub named: Parcel,
+    pub count: usize,
+    pub ledger: Ledger,
+}
+
 // The eight steps of a run.
 pub enum Step {
     Add { site: u64, id: u64 },

@@ -6,14 +6,18 @@ use native.Mathlib.Omega.{arith}
 use mathlib.Core.Bool.{Bool, true, false, cond}
 use mathlib.Core.Path.{_≡_, refl, sym, ap, _∙_}
 use mathlib.Core.List.{List}
+use mathlib.Core.Logic.{_⊎_, inl, inr}
 use lib.ListN.{length, getD, set}
+use lib.Dec.{leb, ltb}
+use borrow.Author.Tests.{lt-ltb, le-ltb, le-leb, lt-leb}
 use Rattle.rules.specs.declared.Answer.{Answer}
 use Rattle.rules.specs.declared.Found.{Found}
 use Rattle.rules.specs.declared.Found.the-variants.{At, Absent}
 use Rattle.rules.specs.Lengths.{M, afterRemove}
 use Rattle.rules.specs.LengthLaws.{remove-none, remove-rises}
 use Rattle.rules.specs.Table.{SoundTable, capacity, lengthAt, lengthOf, held, foundOf, raised, heldWith}
-use Rattle.rules.specs.Operations.{accepted, outOfRoom, answer, unlessRefused, lengthRefusal, raiseAnswer, raiseTable, removedLength, removeRefusal, removeAnswer, removeTable}
+use Rattle.rules.specs.Operations.{accepted, outOfRoom, crowded, answer, unlessRefused, lengthRefusal, raiseAnswer, raiseTable, removedLength, removeRefusal, removeAnswer, removeTable}
+use Rattle.rules.specs.Order.{lt-or-le}
 use Rattle.rules.specs.Update.{held-with, fitting-here}
 use Rattle.rules.specs.Places.{Laid, laid-of, at-found, none-found}
 use Rattle.rules.specs.Insert.{raised-set}
@@ -84,3 +88,14 @@ enter-roomy t e n z pos roomy =
     let grows : heldWith t e n ≡ suc (held t) = held-with t e n pos ∙ (rw z) in
     let r = raise-accepted t e n (omega (arith, grows)) in
     (sym (r .0), sym (r .1))
+
+-- ---- whether a length needs a place that the table has not
+pub room-here : (t : List ℕ) (e n : ℕ) → SoundTable t → (lengthOf t e ≡ 0 → n ≡ 0) → false ≡ crowded t (heldWith t e n)
+room-here t e n ok h = sym (le-ltb (capacity t) (heldWith t e n) (fitting-here M t e ok n h))
+
+pub room-new : (t : List ℕ) (e n k : ℕ) → lengthOf t e ≡ 0 → 1 ≤ n → k ≡ held t → leb (capacity t) k ≡ crowded t (heldWith t e n)
+room-new t e n k z pos q = rw (held-with t e n pos, z, q) (go (lt-or-le (capacity t) (suc (held t))))
+  where
+    go : (capacity t < suc (held t)) ⊎ (suc (held t) ≤ capacity t) → leb (capacity t) (held t) ≡ ltb (capacity t) (suc (held t))
+    go (inl p) = rw (lt-ltb (capacity t) (suc (held t)) p, le-leb (capacity t) (held t) (omega arith))
+    go (inr p) = rw (le-ltb (capacity t) (suc (held t)) p, lt-leb (capacity t) (held t) (omega arith))

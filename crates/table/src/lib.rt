@@ -19,4 +19,5 @@ pub use lengths::listed;
 pub use merging::merge;
 pub use raise::absorb;
 pub use raise::add;
+pub use raise::lacks_room;
 pub use raise::remove;

@@ -10,9 +10,9 @@ use rules::Found;
 ghost use mathlib.Core.Path.{_≡_};
 ghost use Prim.Native.Nat.{_+_, _*_, _≤_};
 ghost use lib.ListN.{length as size};
-ghost use Rattle.rules.specs.Lengths.{M};
-ghost use Rattle.rules.specs.Table.{SoundTable, held, lengthOf, raised};
-ghost use Rattle.rules.specs.Operations.{raiseAnswer, raiseTable, addAnswer, addTable, absorbAnswer, absorbTable, removeAnswer, removeTable};
+ghost use Rattle.rules.specs.Lengths.{M, join};
+ghost use Rattle.rules.specs.Table.{SoundTable, held, lengthOf, heldWith, raised};
+ghost use Rattle.rules.specs.Operations.{crowded, raiseAnswer, raiseTable, addAnswer, addTable, absorbAnswer, absorbTable, removeAnswer, removeTable};
 
 // An id without an entry is given one: the entries with larger ids move on by one place, the last one first.
 fn insert(table: &mut [u64], used: usize, id: u64, length: u64)
@@ -114,4 +114,18 @@ pub fn absorb(table: &mut [u64], id: u64, length: u64) -> Answer
         };
     }
     enter(table, id, length)
+}
+
+// Whether `absorb` would be refused, with nothing written: for a caller that has something else to test before it absorbs.
+pub fn lacks_room(table: &[u64], id: u64, length: u64) -> bool
+    requires { ⌜ SoundTable (now table) ⌝ }
+    ensures { λ r. ⌜ r ≡ crowded (now (table .entry)) (heldWith (now (table .entry)) id (join (lengthOf (now (table .entry)) id) length)) ⌝ }
+{
+    if let Found::At(i) = lookup(table, id) {
+        return false;
+    }
+    if length == 0 {
+        return false;
+    }
+    table.len() / 2 <= held(table)
 }
