@@ -14,3 +14,4 @@ pub mod Cases
 pub mod Parcels
 pub mod Ledgers
 pub mod Runs
+pub mod Sites

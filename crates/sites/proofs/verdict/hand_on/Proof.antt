@@ -1,0 +1,14 @@
+-- `sites::verdict::hand_on`: field by field.
+-- Assumes nothing.
+use borrow.Author.Needs.{needs}
+use Rattle.sites.proofs.verdict.hand_on.Statement.{statement}
+use Rattle.sites.proofs.verdict.hand_on.Tie as tie
+
+no-parcel-requires : tie.Need-no-parcel-requires
+no-parcel-requires c κs = search needs
+
+returns : tie.Need-returns
+returns c = rw (c .no-parcel .ensures)
+
+pub hand-on-spec : {M : Type 1} → statement M
+hand-on-spec = tie.close (tie.spec no-parcel-requires returns)

@@ -1,0 +1,14 @@
+-- `sites::verdict::refuse`: field by field.
+-- Assumes nothing.
+use borrow.Author.Needs.{needs}
+use Rattle.sites.proofs.verdict.refuse.Statement.{statement}
+use Rattle.sites.proofs.verdict.refuse.Tie as tie
+
+no-parcel-requires : tie.Need-no-parcel-requires
+no-parcel-requires c κs = search needs
+
+returns : tie.Need-returns
+returns c = rw (c .no-parcel .ensures)
+
+pub refuse-spec : {M : Type 1} → statement M
+refuse-spec = tie.close (tie.spec no-parcel-requires returns)

@@ -1,0 +1,63 @@
+-- A step's outcome by value: what the covered functions of this crate compute from the words and from what the step sees besides them.
+-- Assumes nothing.
+use Prim.Native.Nat.{ℕ, zero, suc, _*_, _≤_}
+use mathlib.Core.Path.{_≡_}
+use mathlib.Core.Bool.{Bool, true, not}
+use mathlib.Core.List.{List, [], _∷_}
+use lib.ListN.{length}
+use Rattle.rules.specs.declared.Answer.{Answer}
+use Rattle.rules.specs.declared.Run.{Run}
+use Rattle.rules.specs.declared.Parcel.{Parcel}
+use Rattle.rules.specs.declared.Sight.{Sight}
+use Rattle.rules.specs.declared.Step.{Step}
+use Rattle.rules.specs.Lengths.{M}
+use Rattle.rules.specs.Operations.{unlessRefused}
+use Rattle.rules.specs.Parcels.{noParcel}
+use Rattle.rules.specs.Ledgers.{noCounter}
+use Rattle.rules.specs.Runs.{width, tablesSound, firstGiven, Test, _when_, sizesRight, allSound, stepTests, refusalIn, valueIn, wordsIn, placeIn, parcelIn, counterOf}
+use Rattle.sites.specs.declared.verdict.Verdict.{Verdict}
+
+-- nothing to change
+abbrev pub refusedVerdict : ℕ → ℕ → Verdict
+refusedVerdict number count = record { refusal = number; value = 0; counter = noCounter; at = count; parcel = noParcel }
+
+abbrev pub tableVerdict : Answer → ℕ → Verdict
+tableVerdict a count = record { refusal = a .refusal; value = a .value; counter = noCounter; at = count; parcel = noParcel }
+
+-- a verdict by its refusal: where it is accepted the value, the counter, and the slot with what is put there
+abbrev pub verdict : ℕ → ℕ → ℕ → ℕ → Parcel → ℕ → Verdict
+verdict zero value counter at p count = record { refusal = 0; value = value; counter = counter; at = at; parcel = p }
+verdict (suc r) value counter at p count = refusedVerdict (suc r) count
+
+-- ---- once the state is judged
+unfoldable pub stepRefusal : Run → List ℕ → Sight → Step → ℕ
+stepRefusal run ws si step = firstGiven (stepTests run ws si step)
+
+abbrev pub verdictBy : ℕ → Run → List ℕ → Sight → Step → Verdict
+verdictBy r run ws si step = verdict r (valueIn run ws si step) (counterOf step) (placeIn si step) (parcelIn run ws si step) (si .count)
+
+abbrev pub stepVerdict : Run → List ℕ → Sight → Step → Verdict
+stepVerdict run ws si step = verdictBy (stepRefusal run ws si step) run ws si step
+
+abbrev pub stepWords : Run → List ℕ → Sight → Step → List ℕ
+stepWords run ws si step = unlessRefused (stepRefusal run ws si step) ws (wordsIn run ws si step)
+
+-- ---- judged and all
+unfoldable pub judgement : Run → List ℕ → Sight → ℕ
+judgement run ws si = firstGiven ((1 when not (sizesRight run (length ws) (si .count))) ∷ (2 when not (allSound run ws si)) ∷ [])
+
+abbrev pub verdictOf : Run → List ℕ → Sight → Step → Verdict
+verdictOf run ws si step = verdictBy (refusalIn run ws si step) run ws si step
+
+abbrev pub wordsOf : Run → List ℕ → Sight → Step → List ℕ
+wordsOf run ws si step = unlessRefused (refusalIn run ws si step) ws (wordsIn run ws si step)
+
+-- ---- what the functions below the judge ask of the words: right sizes and sound tables
+pub record Sized (run : Run) (n : ℕ) : Type 0 where
+  pub few : run .sites ≤ 16
+  pub small : run .capacity ≤ 2048
+  pub long : n ≡ run .sites * width run
+
+pub record Ready (run : Run) (ws : List ℕ) : Type 0 where
+  pub sized : Sized run (length ws)
+  pub tables : tablesSound M (width run) (run .sites) ws ≡ true

@@ -1,0 +1,3 @@
+// A run: the sizes, the judging of the three lent things, and the steps.
+mod verdict;
+pub use verdict::Verdict;
