@@ -46,3 +46,8 @@ raisedLedger most counter l = record {
   absorbed = raisedIf most (eqb counter absorbedCounter) (l .absorbed);
   lost = raisedIf most (eqb counter lostCounter) (l .lost);
 }
+
+-- the ledger emptied where that is wanted, else the ledger as it is
+unfoldable pub emptiedIf : Bool → Ledger → Ledger
+emptiedIf true l = emptyLedger
+emptiedIf false l = l
