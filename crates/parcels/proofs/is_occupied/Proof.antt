@@ -1,0 +1,13 @@
+-- `parcels::is_occupied`: the code is the definition.
+-- Assumes nothing.
+use mathlib.Core.Path.{refl}
+use Rattle.rules.specs.Parcels.{isOccupied}
+use Rattle.parcels.proofs.is_occupied.Statement.{statement}
+use Rattle.parcels.proofs.is_occupied.Tie as tie
+
+returns : tie.Need-returns
+unfolding isOccupied
+returns c = refl
+
+pub is-occupied-spec : {M : Type 1} → statement M
+is-occupied-spec = tie.close (tie.spec returns)

@@ -1,0 +1,116 @@
+// The parcel list: a lent slice of slots, read, stored to, counted and cleared. What each function means is said in `specs/Parcels` of the
+// crate `rules`. Every function here takes any slots at all: whether they are sound is one of the things that a scan tells.
+use rules::M;
+use rules::Parcel;
+use rules::Scan;
+ghost use mathlib.Core.Path.{_≡_};
+ghost use Prim.Native.Nat.{_<_, _^_, min};
+ghost use lib.ListN.{set, getD};
+ghost use Rattle.rules.specs.Lengths.{M};
+ghost use Rattle.rules.specs.Parcels.{noParcel, isFree, isOccupied, scanOf, cleared};
+ghost use Rattle.parcels.specs.Turns.{lookOf};
+
+// Whether a slot is free. There is no early exit, here and below: a scan then has few branches to guess.
+pub fn is_free(p: Parcel) -> bool
+    ensures { λ r. ⌜ r ≡ isFree p ⌝ }
+{
+    (p.site == 0) & ((p.id == 0) & (p.length == 0))
+}
+
+// Whether a slot is rightly occupied: its length is one that a table can hold, and its site is one of the run.
+pub fn is_occupied(p: Parcel, sites: u64) -> bool
+    ensures { λ r. ⌜ r ≡ isOccupied M sites p ⌝ }
+{
+    (1 <= p.length) & ((p.length <= M) & (p.site < sites))
+}
+
+// What a scan knows once it has seen the slot at `at` too. The slots are seen in order, so a free one counts only where none was seen before.
+fn look(s: Scan, p: Parcel, at: usize, sites: u64) -> Scan
+    requires { ⌜ s .waiting < 2 ^ 63 ⌝ }
+    ensures { λ r. ⌜ r ≡ lookOf M sites at p s ⌝ }
+{
+    if is_free(p) {
+        if at < s.free {
+            Scan {
+                sound: s.sound,
+                waiting: s.waiting,
+                free: at,
+            }
+        } else {
+            s
+        }
+    } else {
+        let right = is_occupied(p, sites);
+        Scan {
+            sound: s.sound & right,
+            waiting: s.waiting + 1,
+            free: s.free,
+        }
+    }
+}
+
+// All that the operations ask of the slots, in one pass. The number of slots stands for a free one until one is seen.
+pub fn scan_slots(slots: &[Parcel], sites: u64) -> Scan
+    ensures { λ r. ⌜ r ≡ scanOf M sites (now (slots .entry)) ⌝ }
+{
+    let n = slots.len();
+    let mut s = Scan {
+        sound: true,
+        waiting: 0,
+        free: n,
+    };
+    let mut i = 0;
+    while i < n {
+        s = look(s, slots[i], i, sites);
+        i += 1;
+    }
+    s
+}
+
+// The parcel in a slot. Past the end there is none, so that no caller has a number of slots to compare with.
+pub fn read_slot(slots: &[Parcel], at: usize) -> Parcel
+    ensures { λ r. ⌜ r ≡ getD (now (slots .entry)) at noParcel ⌝ }
+{
+    if at < slots.len() {
+        slots[at]
+    } else {
+        Parcel {
+            site: 0,
+            id: 0,
+            length: 0,
+        }
+    }
+}
+
+// Puts a parcel into a slot. Past the end nothing changes: the caller that has nothing to store names a slot that is not there.
+pub fn store_slot(slots: &mut [Parcel], at: usize, parcel: Parcel)
+    ensures { λ _. ⌜ now (slots .exit) ≡ set (now (slots .entry)) at parcel ⌝ }
+{
+    if at < slots.len() {
+        slots[at] = parcel;
+    }
+}
+
+// How many slots there are to clear.
+fn smaller(count: usize, n: usize) -> usize
+    ensures { λ r. ⌜ r ≡ min count n ⌝ }
+{
+    if count < n { count } else { n }
+}
+
+// Makes the first slots free, or all where there are fewer.
+pub fn clear_slots(slots: &mut [Parcel], count: usize)
+    ensures { λ _. ⌜ now (slots .exit) ≡ cleared count (now (slots .entry)) ⌝ }
+{
+    let end = smaller(count, slots.len());
+    let none = Parcel {
+        site: 0,
+        id: 0,
+        length: 0,
+    };
+    let mut i = 0;
+    while i < end {
+        slots[i] = none;
+        i += 1;
+    }
+}
