@@ -4,7 +4,7 @@
 --     start        what is known before any slot is seen.        scanned      from there, the turns make `scanOf`
 --     one-turn     the slots from i on are the slot i and those from i + 1 on.        all-seen     none is left
 --     fewer        a turn counts at most one
---     clear-one    one more slot is cleared.        clear-all    as many as there are to clear is as many as are asked for
+--     clear-none   no slot is cleared.        clear-one    one more slot is cleared.        clear-all    as many as there are to clear is as many as are asked for
 -- Assumes nothing.
 use mathlib.Core.Path.{_≡_, refl, sym, ap, _∙_, subst}
 use Prim.Native.Nat.{ℕ, zero, suc, _+_, _<_, _≤_, min}
@@ -109,6 +109,10 @@ module _ (most sites : ℕ) where
   all-seen ys i s e = subst (λ (k : ℕ). after (drop k ys) k s ≡ s) (sym e) (rw (drop-length))
 
 -- ---- a loop that stores a free slot at each number
+pub clear-none : (ys : List Parcel) → cleared 0 ys ≡ ys
+unfolding cleared
+clear-none ys = refl
+
 clear-next : (ys : List Parcel) (i : ℕ) → i < length ys → set (cleared i ys) i noParcel ≡ cleared (suc i) ys
 unfolding cleared
 clear-next [] i l = absurd (omega (arith, l))
