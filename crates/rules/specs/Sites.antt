@@ -103,3 +103,8 @@ module _ (run : Run) (ws t : List ℕ) (k n : ℕ) (in-run : k < n) (long : leng
       go j p (same q) = rw (q, with-same) one
       go j p (below q) = other j p (omega arith)
       go j p (above q) = other j p (omega arith)
+
+-- a table put back as it was
+pub with-own : (run : Run) (ws : List ℕ) (k : ℕ) → withTable run ws k (tableAt run ws k) ≡ ws
+unfolding withTable tableAt
+with-own run ws k = rw (take-append-drop (width run) (drop (k * width run) ws)) (take-append-drop (k * width run) ws)

@@ -1,5 +1,8 @@
 // A run: the sizes, the judging of the three lent things, and the steps.
 mod judge;
+mod one;
+mod places;
 mod verdict;
 
+pub use places::Part;
 pub use verdict::Verdict;
