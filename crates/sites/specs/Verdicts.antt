@@ -5,6 +5,7 @@ use mathlib.Core.Path.{_≡_}
 use mathlib.Core.Bool.{Bool, true, not}
 use mathlib.Core.List.{List, [], _∷_}
 use lib.ListN.{length}
+use lib.Dec.{eqb}
 use Rattle.rules.specs.declared.Answer.{Answer}
 use Rattle.rules.specs.declared.Run.{Run}
 use Rattle.rules.specs.declared.Parcel.{Parcel}
@@ -14,7 +15,7 @@ use Rattle.rules.specs.Lengths.{M}
 use Rattle.rules.specs.Operations.{unlessRefused}
 use Rattle.rules.specs.Parcels.{noParcel}
 use Rattle.rules.specs.Ledgers.{noCounter}
-use Rattle.rules.specs.Runs.{width, tablesSound, firstGiven, Test, _when_, sizesRight, allSound, stepTests, refusalIn, valueIn, wordsIn, placeIn, parcelIn, counterOf}
+use Rattle.rules.specs.Runs.{width, tablesSound, noFreeSlot, firstGiven, Test, _when_, sizesRight, allSound, stepTests, refusalIn, valueIn, wordsIn, placeIn, parcelIn, counterOf}
 use Rattle.sites.specs.declared.verdict.Verdict.{Verdict}
 
 -- nothing to change
@@ -28,6 +29,11 @@ tableVerdict a count = record { refusal = a .refusal; value = a .value; counter 
 abbrev pub verdict : ℕ → ℕ → ℕ → ℕ → Parcel → ℕ → Verdict
 verdict zero value counter at p count = record { refusal = 0; value = value; counter = counter; at = at; parcel = p }
 verdict (suc r) value counter at p count = refusedVerdict (suc r) count
+
+-- a new parcel in the lowest free slot
+unfoldable pub posted : Sight → Parcel → ℕ → ℕ → Verdict
+posted si p counter counted =
+    verdict (firstGiven ((9 when noFreeSlot si) ∷ (10 when eqb counted M) ∷ [])) (si .scan .free) counter (si .scan .free) p (si .count)
 
 -- ---- once the state is judged
 unfoldable pub stepRefusal : Run → List ℕ → Sight → Step → ℕ

@@ -2,6 +2,7 @@
 mod judge;
 mod one;
 mod places;
+mod posts;
 mod verdict;
 
 pub use places::Part;

@@ -1,0 +1,96 @@
+-- The steps on parcels: their refusals at known tests.
+-- Assumes nothing.
+use Prim.Native.Nat.{ℕ, zero, suc, _≤_, _<_}
+use mathlib.Core.Bool.{Bool, true, false, cond, not, _||_}
+use mathlib.Core.Path.{_≡_, refl, sym, ap, _∙_}
+use mathlib.Core.List.{List}
+use lib.Dec.{leb, eqb}
+use borrow.Author.Tests.{le-leb, lt-leb, eq-eqb, ne-eqb}
+use Rattle.rules.specs.declared.Run.{Run}
+use Rattle.rules.specs.declared.Parcel.{Parcel}
+use Rattle.rules.specs.declared.Sight.{Sight}
+use Rattle.rules.specs.declared.Step.{Step}
+use Rattle.rules.specs.declared.Step.the-variants.{Send, Again, Lose, Deliver}
+use Rattle.rules.specs.Lengths.{M}
+use Rattle.rules.specs.Table.{lengthOf}
+use Rattle.rules.specs.Parcels.{noParcel, isOccupied}
+use Rattle.rules.specs.Ledgers.{sentCounter, copiedCounter, lostCounter}
+use Rattle.rules.specs.Runs.{tableAt, firstGiven, nothingThere, noFreeSlot, valueIn, placeIn, parcelIn, counterOf}
+use Rattle.sites.specs.Verdicts.{refusedVerdict, posted, stepRefusal, stepVerdict}
+
+not-not : (b : Bool) → not (not b) ≡ b
+not-not true = refl
+not-not false = refl
+
+-- ---- the named slot
+module _ (run : Run) (si : Sight) (i : ℕ) where
+  pub there : i < si .count → isOccupied M (run .sites) (si .named) ≡ not (nothingThere run si i)
+  there h = rw (lt-leb (si .count) i h) (sym (not-not (isOccupied M (run .sites) (si .named))))
+
+  pub not-there : si .count ≤ i → false ≡ not (nothingThere run si i)
+  not-there h = rw (le-leb (si .count) i h)
+
+-- ---- a new parcel
+module _ (si : Sight) (p : Parcel) (counter counted : ℕ) where
+  pub no-slot : si .count ≤ si .scan .free → refusedVerdict 9 (si .count) ≡ posted si p counter counted
+  unfolding posted firstGiven
+  no-slot h = rw (le-leb (si .count) (si .scan .free) h)
+
+  pub no-count : si .scan .free < si .count → counted ≡ M → refusedVerdict 10 (si .count) ≡ posted si p counter counted
+  unfolding posted firstGiven
+  no-count h q = rw (lt-leb (si .count) (si .scan .free) h, eq-eqb counted M q)
+
+  pub in-slot : si .scan .free < si .count → (counted ≡ M → ⊥)
+      → record { refusal = 0; value = si .scan .free; counter = counter; at = si .scan .free; parcel = p } ≡ posted si p counter counted
+  unfolding posted firstGiven
+  in-slot h q = rw (lt-leb (si .count) (si .scan .free) h, ne-eqb counted M q)
+
+-- ---- again and lose
+module _ (run : Run) (ws : List ℕ) (si : Sight) (i : ℕ) where
+  pub again-none : nothingThere run si i ≡ true → stepRefusal run ws si (Again i) ≡ 5
+  unfolding stepRefusal firstGiven
+  again-none h = rw h
+
+  pub again-step : nothingThere run si i ≡ false → posted si (si .named) copiedCounter (si .ledger .copied) ≡ stepVerdict run ws si (Again i)
+  unfolding posted stepRefusal firstGiven valueIn counterOf placeIn parcelIn
+  again-step h = rw h
+
+  pub lose-none : nothingThere run si i ≡ true → stepRefusal run ws si (Lose i) ≡ 5
+  unfolding stepRefusal firstGiven
+  lose-none h = rw h
+
+  pub lose-full : nothingThere run si i ≡ false → si .ledger .lost ≡ M → stepRefusal run ws si (Lose i) ≡ 10
+  unfolding stepRefusal firstGiven
+  lose-full h q = rw (h, eq-eqb (si .ledger .lost) M q)
+
+  pub lose-step : nothingThere run si i ≡ false → (si .ledger .lost ≡ M → ⊥)
+      → record { refusal = 0; value = 0; counter = lostCounter; at = i; parcel = noParcel } ≡ stepVerdict run ws si (Lose i)
+  unfolding stepRefusal firstGiven valueIn counterOf placeIn parcelIn
+  lose-step h q = rw (h, ne-eqb (si .ledger .lost) M q)
+
+-- ---- send
+module _ (run : Run) (ws : List ℕ) (si : Sight) (f t e : ℕ) where
+  pub send-from : run .sites ≤ f → stepRefusal run ws si (Send f t e) ≡ 3
+  unfolding stepRefusal firstGiven
+  send-from h = rw (le-leb (run .sites) f h)
+
+  module _ (from-in : f < run .sites) where
+    pub send-to : run .sites ≤ t → stepRefusal run ws si (Send f t e) ≡ 3
+    unfolding stepRefusal firstGiven
+    send-to h = rw (lt-leb (run .sites) f from-in, le-leb (run .sites) t h)
+
+    module _ (to-in : t < run .sites) where
+      pub send-same : f ≡ t → stepRefusal run ws si (Send f t e) ≡ 4
+      unfolding stepRefusal firstGiven
+      send-same q = rw (lt-leb (run .sites) f from-in, lt-leb (run .sites) t to-in, eq-eqb f t q)
+
+      module _ (other : f ≡ t → ⊥) where
+        pub send-unheld : lengthOf (tableAt run ws f) e ≡ 0 → stepRefusal run ws si (Send f t e) ≡ 6
+        unfolding stepRefusal firstGiven
+        send-unheld z = rw (lt-leb (run .sites) f from-in, lt-leb (run .sites) t to-in, ne-eqb f t other, eq-eqb (lengthOf (tableAt run ws f) e) 0 z)
+
+        pub send-step : (lengthOf (tableAt run ws f) e ≡ 0 → ⊥) → (n : ℕ) → n ≡ lengthOf (tableAt run ws f) e
+            → posted si (record { site = t; id = e; length = n }) sentCounter (si .ledger .sent) ≡ stepVerdict run ws si (Send f t e)
+        unfolding posted stepRefusal firstGiven valueIn counterOf placeIn parcelIn
+        send-step z n q =
+            rw (q, lt-leb (run .sites) f from-in, lt-leb (run .sites) t to-in, ne-eqb f t other, ne-eqb (lengthOf (tableAt run ws f) e) 0 z)
