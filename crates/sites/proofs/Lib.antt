@@ -2,3 +2,5 @@ pub mod Judging
 pub mod Tables
 pub mod OneTable
 pub mod Posting
+pub mod Delivering
+pub mod Merging

@@ -39,8 +39,7 @@ module _ (run : Run) (ws : List ℕ) (si : Sight) (k e : ℕ) (inside : k < run 
   pub add-step : (tableVerdict (addAnswer (tableAt run ws k) e) (si .count) ≡ stepVerdict run ws si (Add k e)) × (withTable run ws k (addTable (tableAt run ws k) e) ≡ stepWords run ws si (Add k e))
   unfolding raiseAnswer raiseTable valueIn wordsIn counterOf placeIn parcelIn
   add-step =
-      let n = lengthAdded run ws k e in
-      (
+      let n = lengthAdded run ws k e in (
         table-verdict run ws si (Add k e) k _ n (raised (tableAt run ws k) e n) add-refusal refl refl refl refl,
         table-words run ws si (Add k e) k _ n (raised (tableAt run ws k) e n) add-refusal refl refl refl refl refl,
       )
@@ -52,8 +51,7 @@ module _ (run : Run) (ws : List ℕ) (si : Sight) (k e : ℕ) (inside : k < run 
   pub remove-step : (tableVerdict (removeAnswer M (tableAt run ws k) e) (si .count) ≡ stepVerdict run ws si (Remove k e)) × (withTable run ws k (removeTable M (tableAt run ws k) e) ≡ stepWords run ws si (Remove k e))
   unfolding removedLength removeTable removeRefusal valueIn wordsIn counterOf placeIn parcelIn
   remove-step =
-      let n = afterRemove (lengthOf (tableAt run ws k) e) in
-      (
+      let n = afterRemove (lengthOf (tableAt run ws k) e) in (
         table-verdict run ws si (Remove k e) k _ n (raised (tableAt run ws k) e n) remove-refusal refl refl refl refl,
         table-words run ws si (Remove k e) k _ n (raised (tableAt run ws k) e n) remove-refusal refl refl refl refl refl,
       )

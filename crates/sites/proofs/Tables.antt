@@ -60,7 +60,7 @@ verdict-table : (r v count : ℕ) → tableVerdict (answer r v) count ≡ verdic
 verdict-table zero v count = refl
 verdict-table (suc r) v count = refl
 
-kept : (r : ℕ) (run : Run) (ws : List ℕ) (k : ℕ) (u : List ℕ)
+pub kept : (r : ℕ) (run : Run) (ws : List ℕ) (k : ℕ) (u : List ℕ)
     → withTable run ws k (unlessRefused r (tableAt run ws k) u) ≡ unlessRefused r ws (withTable run ws k (unlessRefused r (tableAt run ws k) u))
 kept zero run ws k u = refl
 kept (suc r) run ws k u = with-own run ws k

@@ -14,7 +14,7 @@ use Rattle.rules.specs.declared.Step.{Step}
 use Rattle.rules.specs.Lengths.{M}
 use Rattle.rules.specs.Operations.{unlessRefused}
 use Rattle.rules.specs.Parcels.{noParcel}
-use Rattle.rules.specs.Ledgers.{noCounter}
+use Rattle.rules.specs.Ledgers.{noCounter, absorbedCounter}
 use Rattle.rules.specs.Runs.{width, tablesSound, noFreeSlot, firstGiven, Test, _when_, sizesRight, allSound, stepTests, refusalIn, valueIn, wordsIn, placeIn, parcelIn, counterOf}
 use Rattle.sites.specs.declared.verdict.Verdict.{Verdict}
 
@@ -34,6 +34,10 @@ verdict (suc r) value counter at p count = refusedVerdict (suc r) count
 unfoldable pub posted : Sight → Parcel → ℕ → ℕ → Verdict
 posted si p counter counted =
     verdict (firstGiven ((9 when noFreeSlot si) ∷ (10 when eqb counted M) ∷ [])) (si .scan .free) counter (si .scan .free) p (si .count)
+
+-- an update that was taken to its site's table: the slot is freed and the update counted where the table took it
+abbrev pub delivered : Answer → ℕ → ℕ → Verdict
+delivered a slot count = verdict (a .refusal) (a .value) absorbedCounter slot noParcel count
 
 -- ---- once the state is judged
 unfoldable pub stepRefusal : Run → List ℕ → Sight → Step → ℕ

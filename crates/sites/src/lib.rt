@@ -1,5 +1,7 @@
 // A run: the sizes, the judging of the three lent things, and the steps.
+mod deliver;
 mod judge;
+mod merges;
 mod one;
 mod places;
 mod posts;

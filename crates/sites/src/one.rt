@@ -1,8 +1,8 @@
 // The steps on one site's table: add, remove and query.
 use crate::places::part_of;
+use crate::verdict::Verdict;
 use crate::verdict::hand_on;
 use crate::verdict::refuse;
-use crate::verdict::Verdict;
 use rules::Answer;
 use rules::Run;
 use rules::Sight;

@@ -1,14 +1,14 @@
 // The steps on parcels: send, again, lose and deliver.
 use crate::places::part_of;
+use crate::verdict::Verdict;
 use crate::verdict::no_parcel;
 use crate::verdict::refuse;
-use crate::verdict::Verdict;
 use parcels::is_occupied;
 use rules::Found;
+use rules::M;
 use rules::Parcel;
 use rules::Run;
 use rules::Sight;
-use rules::M;
 ghost use mathlib.Core.Path.{_≡_};
 ghost use mathlib.Core.Bool.{not};
 ghost use mathlib.Core.List.{List};
@@ -69,7 +69,7 @@ pub(crate) fn on_send(words: &[u64], run: Run, seen: Sight, from: u64, to: u64, 
 }
 
 // Whether the named slot is there and occupied.
-fn is_there(run: Run, seen: Sight, slot: u64) -> bool
+pub(crate) fn is_there(run: Run, seen: Sight, slot: u64) -> bool
     ensures { λ r. ⌜ r ≡ not (nothingThere run seen slot) ⌝ }
 {
     if slot < seen.count as u64 {

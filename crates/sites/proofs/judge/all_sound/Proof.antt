@@ -18,13 +18,13 @@ sound-requires c κs = search needs
 
 returns : tie.Need-returns
 unfolding allSound
-returns c = 
+returns c =
     let t = c .before .before in
     rw (sym (t .before .tables-sound .ensures) ∙ t .if1 .taken, c .before .if2 .taken) (c .sound .ensures)
 
 returns-2 : tie.Need-returns-2
 unfolding allSound
-returns-2 c = 
+returns-2 c =
     let t = c .before in
     rw (sym (t .before .tables-sound .ensures) ∙ t .if1 .taken, c .if2 .left)
 

@@ -17,13 +17,13 @@ all-sound-requires c κs = sized _ _ _ (sym (c .before .sizes-right .ensures) �
 
 returns : tie.Need-returns
 unfolding judgement firstGiven
-returns c = 
+returns c =
     let t = c .before .before in
     rw (sym (t .before .sizes-right .ensures) ∙ t .if1 .taken, sym (c .before .all-sound .ensures) ∙ c .if2 .taken)
 
 returns-2 : tie.Need-returns-2
 unfolding judgement firstGiven
-returns-2 c = 
+returns-2 c =
     let t = c .before .before in
     rw (sym (t .before .sizes-right .ensures) ∙ t .if1 .taken, sym (c .before .all-sound .ensures) ∙ c .if2 .left)
 

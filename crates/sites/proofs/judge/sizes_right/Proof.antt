@@ -34,7 +34,7 @@ mul-result : tie.Need-mul-result
 mul-result c = search needs
 
 mul-result-2 : tie.Need-mul-result-2
-mul-result-2 c = 
+mul-result-2 c =
     let run = c .before .before .before .before .before .before .before .before .before .args .run in
     omega (arith, few-words (run .sites) (run .capacity) (omega arith) (omega arith))
 

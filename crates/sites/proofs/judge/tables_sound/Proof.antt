@@ -35,7 +35,7 @@ fits c =
     omega (arith, part-fits (l .k) (s .args .sites) (s .args .width) (c .loop-test .taken), l .inv .1, s .pre)
 
 loop-holds : tie.Need-loop-holds Inv-loop μ-loop
-loop-holds c = 
+loop-holds c =
     let w = c .before .args .width in
     let all : c .before .args .sites - 0 ≡ c .before .args .sites = omega arith in
     (omega arith, sym (zero-mul w), rw (zero-mul w, all) refl)
@@ -65,19 +65,18 @@ loop-less : tie.Need-loop-less Inv-loop μ-loop
 loop-less c = search needs
 
 loop-again : tie.Need-loop-again Inv-loop μ-loop
-loop-again c = 
+loop-again c =
     let l = c .before .before .before .loop in
     let s = c .before .before .before .before .before in
     let e : l .from + s .args .width - l .from ≡ s .args .width = omega arith in
-    let judged : c .sound .result ≡ sound M (take (s .args .width) (drop (l .k * s .args .width) (now (s .args .words)))) = rw (e, l .inv .1) at (c .sound .ensures) in
-    (
+    let judged : c .sound .result ≡ sound M (take (s .args .width) (drop (l .k * s .args .width) (now (s .args .words)))) = rw (e, l .inv .1) at (c .sound .ensures) in (
       omega arith,
       rw (add-one (l .k), suc-mul (l .k) (s .args .width), l .inv .1),
       tables-more (s .args .width) (s .args .sites) (l .k) (now (s .args .words)) (l .good) (c .sound .result) _ (c .before .before .loop-test .taken) judged (l .inv .2),
     )
 
 returns : tie.Need-returns Inv-loop μ-loop
-returns c = 
+returns c =
     let l = c .before .loop in
     let s = c .before .before .before in
     tables-end (s .args .width) (s .args .sites) (l .k) (now (s .args .words)) (l .good) _ (c .loop-test .left) (l .inv .2)

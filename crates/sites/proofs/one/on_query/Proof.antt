@@ -31,12 +31,12 @@ refuse-requires : tie.Need-refuse-requires
 refuse-requires c κs = search needs
 
 returns : tie.Need-returns
-returns c = 
+returns c =
     let a = c .before .before .before .before in
     c .refuse .ensures ∙ refused-verdict _ _ _ _ 2 (query-outside (a .args .run) (now (a .args .words)) (a .args .seen) (a .args .site) (a .args .id) (c .before .if1 .taken))
 
 part-of-requires : tie.Need-part-of-requires
-part-of-requires c κs = 
+part-of-requires c κs =
     let a = c .before .before .before in
     (c .if1 .left, (a .pre .sized .few, a .pre .sized .small))
 
@@ -53,7 +53,7 @@ part-query-end : tie.Need-part-query-end
 part-query-end c = omega (arith, fits c, c .part-of .ensures)
 
 query-requires : tie.Need-query-requires
-query-requires c κs = 
+query-requires c κs =
     let p = c .before in
     let a = start p in
     rw (part-is (a .args .run) (now (a .args .words)) (a .args .site) _ _ (p .part-of .ensures .0) (p .part-of .ensures .1)) (site-sound (a .args .run) (now (a .args .words)) (a .pre) (a .args .site) (inside p))
@@ -62,7 +62,7 @@ hand-on-requires : tie.Need-hand-on-requires
 hand-on-requires c κs = search needs
 
 returns-2 : tie.Need-returns-2
-returns-2 c = 
+returns-2 c =
     let d = c .before in
     let p = d .before .before in
     let a = start p in

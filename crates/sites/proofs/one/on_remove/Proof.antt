@@ -31,13 +31,13 @@ refuse-requires : tie.Need-refuse-requires
 refuse-requires c κs = search needs
 
 returns : tie.Need-returns
-returns c = 
+returns c =
     let a = c .before .before .before .before in
     let r = remove-outside (a .args .run) (now (a .args .words)) (a .args .seen) (a .args .site) (a .args .id) (c .before .if1 .taken) in
     (c .refuse .ensures ∙ refused-verdict _ _ _ _ 2 r, refused-words _ _ _ _ 2 r)
 
 part-of-requires : tie.Need-part-of-requires
-part-of-requires c κs = 
+part-of-requires c κs =
     let a = c .before .before .before in
     (c .if1 .left, (a .pre .sized .few, a .pre .sized .small))
 
@@ -54,7 +54,7 @@ part-remove-end : tie.Need-part-remove-end
 part-remove-end c = omega (arith, fits c, c .part-of .ensures)
 
 remove-requires : tie.Need-remove-requires
-remove-requires c κs = 
+remove-requires c κs =
     let p = c .before in
     let a = start p in
     rw (part-is (a .args .run) (now (a .args .words)) (a .args .site) _ _ (p .part-of .ensures .0) (p .part-of .ensures .1)) (site-sound (a .args .run) (now (a .args .words)) (a .pre) (a .args .site) (inside p))
@@ -66,7 +66,7 @@ same-length : tie.Need-same-length
 same-length c = search needs
 
 returns-2 : tie.Need-returns-2
-returns-2 c = 
+returns-2 c =
     let d = c .before .before .before in
     let p = d .before .before in
     let a = start p in

@@ -16,7 +16,7 @@ post-requires : tie.Need-post-requires
 post-requires c κs = search needs
 
 returns : tie.Need-returns
-returns c = 
+returns c =
     let t = c .before .before .before in
     λ ws. c .post .ensures ∙ again-step _ ws _ _ (not-true _ (sym (t .before .is-there .ensures) ∙ t .if1 .taken))
 
@@ -24,7 +24,7 @@ refuse-requires : tie.Need-refuse-requires
 refuse-requires c κs = search needs
 
 returns-2 : tie.Need-returns-2
-returns-2 c = 
+returns-2 c =
     let t = c .before in
     λ ws. c .refuse .ensures ∙ refused-verdict _ ws _ _ 4 (again-none _ ws _ _ (not-false _ (sym (t .before .is-there .ensures) ∙ t .if1 .left)))
 

@@ -16,7 +16,7 @@ refuse-requires : tie.Need-refuse-requires
 refuse-requires c κs = search needs
 
 returns : tie.Need-returns
-returns c = 
+returns c =
     let t = c .before .before .before .before in
     λ ws. c .refuse .ensures ∙ refused-verdict _ ws _ _ 9 (lose-full _ ws _ _ (not-true _ (sym (t .before .is-there .ensures) ∙ t .if1 .taken)) (c .before .if2 .taken))
 
@@ -24,7 +24,7 @@ no-parcel-requires : tie.Need-no-parcel-requires
 no-parcel-requires c κs = search needs
 
 returns-2 : tie.Need-returns-2
-returns-2 c = 
+returns-2 c =
     let t = c .before .before .before .before in
     λ ws. rw (c .no-parcel .ensures) (lose-step _ ws _ _ (not-true _ (sym (t .before .is-there .ensures) ∙ t .if1 .taken)) (c .before .if2 .left))
 
@@ -32,7 +32,7 @@ refuse-requires-2 : tie.Need-refuse-requires-2
 refuse-requires-2 c κs = search needs
 
 returns-3 : tie.Need-returns-3
-returns-3 c = 
+returns-3 c =
     let t = c .before in
     λ ws. c .refuse2 .ensures ∙ refused-verdict _ ws _ _ 4 (lose-none _ ws _ _ (not-false _ (sym (t .before .is-there .ensures) ∙ t .if1 .left)))
 

@@ -66,7 +66,7 @@ refuse-requires : tie.Need-refuse-requires
 refuse-requires c κs = search needs
 
 returns : tie.Need-returns
-returns c = 
+returns c =
     let a = c .before .before .before .before .args in
     c .refuse .ensures ∙ refused-verdict _ _ _ _ 2 (send-from (a .run) (now (a .words)) (a .seen) (a .from) (a .to) (a .id) (c .before .if1 .taken))
 
@@ -74,7 +74,7 @@ refuse-requires-2 : tie.Need-refuse-requires-2
 refuse-requires-2 c κs = search needs
 
 returns-2 : tie.Need-returns-2
-returns-2 c = 
+returns-2 c =
     let t = c .before .before .before in
     let a = t .before .before .before .args in
     c .refuse2 .ensures ∙ refused-verdict _ _ _ _ 2 (send-to (a .run) (now (a .words)) (a .seen) (a .from) (a .to) (a .id) (t .if1 .left) (c .before .if2 .taken))
@@ -83,14 +83,14 @@ refuse-requires-3 : tie.Need-refuse-requires-3
 refuse-requires-3 c κs = search needs
 
 returns-3 : tie.Need-returns-3
-returns-3 c = 
+returns-3 c =
     let u = c .before .before in
     let t = u .before .before in
     let a = t .before .before .before .args in
     c .refuse3 .ensures ∙ refused-verdict _ _ _ _ 3 (send-same (a .run) (now (a .words)) (a .seen) (a .from) (a .to) (a .id) (t .if1 .left) (u .if2 .left) (c .before .if3 .taken))
 
 part-of-requires : tie.Need-part-of-requires
-part-of-requires c κs = 
+part-of-requires c κs =
     let t = c .before .before .before in
     let a = t .before .before .before in
     (t .if1 .left, (a .pre .sized .few, a .pre .sized .small))
@@ -108,7 +108,7 @@ part-own-end : tie.Need-part-own-end
 part-own-end c = omega (arith, fits c, c .part-of .ensures)
 
 lookup-requires : tie.Need-lookup-requires
-lookup-requires c κs = 
+lookup-requires c κs =
     let p = c .before in
     let a = start p in
     rw (part-is (a .args .run) (W p) (a .args .from) _ _ (p .part-of .ensures .0) (p .part-of .ensures .1)) (site-sound (a .args .run) (W p) (a .pre) (a .args .from) (from-in p))
@@ -123,7 +123,7 @@ refuse-requires-4 : tie.Need-refuse-requires-4
 refuse-requires-4 c κs = search needs
 
 returns-4 : tie.Need-returns-4
-returns-4 c = 
+returns-4 c =
     let l = c .before .before .before in
     let p = part-of l in
     let a = start p .args in
@@ -141,7 +141,7 @@ mul-t20 : tie.Need-mul-t20
 mul-t20 c = omega (arith, small c)
 
 shared-slice-read-t22 : tie.Need-shared-slice-read-t22
-shared-slice-read-t22 c = 
+shared-slice-read-t22 c =
     let k = c .before in
     let p = part-of (lookup-of k) in
     let a = start p .args in
@@ -151,7 +151,7 @@ post-requires : tie.Need-post-requires
 post-requires c κs = search needs
 
 returns-5 : tie.Need-returns-5
-returns-5 c = 
+returns-5 c =
     let k = c .before .before .before in
     let p = part-of (lookup-of k) in
     let a = start p .args in

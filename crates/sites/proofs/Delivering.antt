@@ -1,0 +1,80 @@
+-- Delivering an update: its refusals at known tests, and what the table's answer makes of it.
+-- Assumes nothing.
+use Prim.Native.Nat.{ℕ, zero, suc, _≤_, _<_}
+use mathlib.Core.Bool.{Bool, true, false, cond, not, _||_, _&&_}
+use mathlib.Core.Path.{_≡_, refl, sym, ap, _∙_}
+use mathlib.Core.List.{List}
+use lib.Dec.{leb, ltb, eqb}
+use borrow.Author.Tests.{ltb-true, eq-eqb, ne-eqb, not-false}
+use Rattle.rules.specs.declared.Run.{Run}
+use Rattle.rules.specs.declared.Answer.{Answer}
+use Rattle.rules.specs.declared.Parcel.{Parcel}
+use Rattle.rules.specs.declared.Sight.{Sight}
+use Rattle.rules.specs.declared.Step.{Step}
+use Rattle.rules.specs.declared.Step.the-variants.{Deliver}
+use Rattle.rules.specs.Lengths.{M}
+use Rattle.rules.specs.View.{parts}
+use Rattle.rules.specs.Table.{lengthOf, heldWith, raised}
+use Rattle.rules.specs.Operations.{answer, crowded, raiseRefusal, raiseAnswer, raiseTable, absorbAnswer, absorbTable}
+use Rattle.rules.specs.Parcels.{noParcel, isOccupied}
+use Rattle.rules.specs.Ledgers.{absorbedCounter}
+use Rattle.rules.specs.Runs.{tableAt, withTable, firstGiven, nothingThere, noRoom, lengthDelivered, valueIn, wordsIn, placeIn, parcelIn, counterOf}
+use Rattle.sites.specs.Verdicts.{refusedVerdict, verdict, delivered, stepRefusal, stepVerdict, stepWords}
+use Rattle.sites.proofs.Tables.{kept}
+
+-- ---- a parcel that is there has a site of the run
+neither : (a b : Bool) → a || b ≡ false → b ≡ false
+neither true b h = absurd (mathlib.Core.Bool.false≢true (sym h))
+neither false b h = h
+
+pub its-site : (run : Run) (si : Sight) (i : ℕ) → nothingThere run si i ≡ false → si .named .site < run .sites
+unfolding isOccupied
+its-site run si i h =
+    let occupied = not-false _ (neither (leb (si .count) i) _ h) in
+    let a = parts (leb 1 (si .named .length)) _ occupied in
+    ltb-true _ _ (parts (leb (si .named .length) M) _ (a .1) .1)
+
+-- ---- the verdict by the table's answer
+pub settle-taken : (a : Answer) (slot count : ℕ) → a .refusal ≡ 0 → record { refusal = 0; value = a .value; counter = absorbedCounter; at = slot; parcel = noParcel } ≡ delivered a slot count
+settle-taken a slot count h = rw h
+
+pub settle-refused : (a : Answer) (slot count : ℕ) → (a .refusal ≡ 0 → ⊥) → refusedVerdict (a .refusal) count ≡ delivered a slot count
+settle-refused a slot count h = go (a .refusal) refl
+  where
+    go : (r : ℕ) → a .refusal ≡ r → refusedVerdict (a .refusal) count ≡ delivered a slot count
+    go zero e = absurd (h e)
+    go (suc r) e = rw e
+
+by-answer : (r v slot count : ℕ) → delivered (answer r v) slot count ≡ verdict r v absorbedCounter slot noParcel count
+by-answer zero v slot count = refl
+by-answer (suc r) v slot count = refl
+
+module _ (run : Run) (ws : List ℕ) (si : Sight) (i : ℕ) where
+  pub deliver-none : nothingThere run si i ≡ true → stepRefusal run ws si (Deliver i) ≡ 5
+  unfolding stepRefusal firstGiven
+  deliver-none h = rw h
+
+  module _ (there : nothingThere run si i ≡ false) where
+    pub deliver-crowded : noRoom run ws (si .named .site) (si .named .id) (lengthDelivered run ws (si .named)) ≡ true → stepRefusal run ws si (Deliver i) ≡ 8
+    unfolding stepRefusal firstGiven
+    deliver-crowded q = rw (there, q)
+
+    pub deliver-full : noRoom run ws (si .named .site) (si .named .id) (lengthDelivered run ws (si .named)) ≡ false → si .ledger .absorbed ≡ M → stepRefusal run ws si (Deliver i) ≡ 10
+    unfolding stepRefusal firstGiven
+    deliver-full q e = rw (there, q, eq-eqb (si .ledger .absorbed) M e)
+
+    module _ (below : si .ledger .absorbed ≡ M → ⊥) where
+      refusal : stepRefusal run ws si (Deliver i) ≡ raiseRefusal (tableAt run ws (si .named .site)) (si .named .id) (lengthDelivered run ws (si .named))
+      unfolding stepRefusal firstGiven raiseRefusal
+      refusal = rw (there, ne-eqb (si .ledger .absorbed) M below)
+
+      pub deliver-step : (delivered (absorbAnswer (tableAt run ws (si .named .site)) (si .named .id) (si .named .length)) i (si .count) ≡ stepVerdict run ws si (Deliver i))
+          × (withTable run ws (si .named .site) (absorbTable (tableAt run ws (si .named .site)) (si .named .id) (si .named .length)) ≡ stepWords run ws si (Deliver i))
+      unfolding raiseAnswer raiseTable valueIn wordsIn counterOf placeIn parcelIn
+      deliver-step =
+          let t = tableAt run ws (si .named .site) in
+          let n = lengthDelivered run ws (si .named) in
+          let r = raiseRefusal t (si .named .id) n in (
+            rw refusal (by-answer r n i (si .count)),
+            rw refusal (kept r run ws (si .named .site) (raised (tableAt run ws (si .named .site)) (si .named .id) (lengthDelivered run ws (si .named)))),
+          )
