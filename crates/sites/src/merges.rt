@@ -13,8 +13,8 @@ ghost use Rattle.sites.specs.Verdicts.{Ready, stepVerdict, stepWords};
 
 // The words of a table, copied to the front of an array that holds the largest one.
 fn copy_words(source: &[u64], copy: &mut [u64; 4096])
-    requires { ⌜ length (now source) ≤ 4096 ⌝ }
-    ensures { λ _. ⌜ take (length (now (source .entry))) (now (copy .exit)) ≡ now (source .entry) ⌝ }
+    requires { ⌜ (length (now source) ≤ 4096) × (length (now copy) ≡ 4096) ⌝ }
+    ensures { λ _. ⌜ (take (length (now (source .entry))) (now (copy .exit)) ≡ now (source .entry)) × (length (now (copy .exit)) ≡ 4096) ⌝ }
 {
     let mut i = 0;
     while i < source.len() {

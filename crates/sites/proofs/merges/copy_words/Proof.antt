@@ -18,7 +18,7 @@ abbrev μ-loop : tie.MeasureT-loop
 μ-loop source copy₀ i₀ copy i = length source - i
 
 loop-holds : tie.Need-loop-holds Inv-loop μ-loop
-loop-holds c = (omega arith, c .good .1, refl)
+loop-holds c = (omega arith, c .pre .1, refl)
 
 mul-copy : tie.Need-mul-copy Inv-loop μ-loop
 mul-copy c = search needs
@@ -47,7 +47,7 @@ returns : tie.Need-returns Inv-loop μ-loop
 returns c =
     let s = now (c .before .before .args .source) in
     let end : c .before .loop .i ≡ length s = omega arith in
-    (rw end at (c .before .loop .inv .2)) ∙ take-length s
+    ((rw end at (c .before .loop .inv .2)) ∙ take-length s, c .before .loop .inv .1)
 
 pub copy-words-spec : {M : Type 1} → statement M
 copy-words-spec =
