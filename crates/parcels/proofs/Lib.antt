@@ -1,2 +1,4 @@
-mod Calls
-mod Slot
+pub mod Calls
+pub mod Slot
+pub mod Lent
+pub mod OnSlots

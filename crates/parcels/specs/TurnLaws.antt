@@ -4,7 +4,7 @@
 --     start        what is known before any slot is seen.        scanned      from there, the turns make `scanOf`
 --     one-turn     the slots from i on are the slot i and those from i + 1 on.        all-seen     none is left
 --     fewer        a turn counts at most one
---     clear-none   no slot is cleared.        clear-one    one more slot is cleared.        clear-all    as many as there are to clear is as many as are asked for
+--     clear-none   no slot is cleared.        clear-one    one more slot is cleared.        clear-all    as many as there are to clear is as many as are asked for.        length-cleared   no slot comes or goes
 -- Assumes nothing.
 use mathlib.Core.Path.{_≡_, refl, sym, ap, _∙_, subst}
 use Prim.Native.Nat.{ℕ, zero, suc, _+_, _<_, _≤_, min}
@@ -121,6 +121,12 @@ clear-next (y ∷ ys) (suc i) l = ap (λ (zs : List Parcel). noParcel ∷ zs) (c
 
 pub clear-one : (ys : List Parcel) (i : ℕ) → i < length ys → set (cleared i ys) i noParcel ≡ cleared (i + 1) ys
 clear-one ys i l = clear-next ys i l ∙ ap (λ (k : ℕ). cleared k ys) (sym (add-one i))
+
+pub length-cleared : (ys : List Parcel) (n : ℕ) → length (cleared n ys) ≡ length ys
+unfolding cleared
+length-cleared ys zero = refl
+length-cleared [] (suc n) = refl
+length-cleared (y ∷ ys) (suc n) = ap suc (length-cleared ys n)
 
 -- past the end there is nothing to clear
 clear-past : (ys : List Parcel) (n : ℕ) → length ys ≤ n → cleared (length ys) ys ≡ cleared n ys

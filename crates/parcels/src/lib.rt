@@ -41,9 +41,10 @@ fn look(s: Scan, p: Parcel, at: usize, sites: u64) -> Scan
         }
     } else {
         let right = is_occupied(p, sites);
+        let more = s.waiting + 1;
         Scan {
             sound: s.sound & right,
-            waiting: s.waiting + 1,
+            waiting: more,
             free: s.free,
         }
     }
@@ -108,9 +109,9 @@ pub fn clear_slots(slots: &mut [Parcel], count: usize)
         id: 0,
         length: 0,
     };
-    let mut i = 0;
-    while i < end {
-        slots[i] = none;
-        i += 1;
+    let mut next = 0;
+    while next < end {
+        slots[next] = none;
+        next += 1;
     }
 }

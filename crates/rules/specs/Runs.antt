@@ -2,6 +2,7 @@
 -- result, and the state after it.
 -- Assumes nothing.
 use Prim.Native.Nat.{ℕ, zero, suc, _+_, _*_}
+use mathlib.Core.Path.{_≡_}
 use mathlib.Core.Bool.{Bool, true, false, _&&_, _||_, not, cond}
 use mathlib.Core.List.{List, [], _∷_, _++_}
 use lib.ListN.{length, getD, take, drop, set, replicate}
@@ -25,6 +26,9 @@ pub record State : Type 0 where
   pub words : List ℕ
   pub slots : List Parcel
   pub ledger : Ledger
+
+abbrev pub lent : List ℕ → List Parcel → Ledger → State
+lent ws ss l = record { words = ws; slots = ss; ledger = l }
 
 -- ---- where the tables stand
 -- "site k's table is the part that starts at word k × 2 × C and is 2 × C words long"
@@ -232,3 +236,12 @@ empty s = record { words = replicate (length (s .words)) 0; slots = cleared (len
 
 unfoldable pub afterFresh : Run → State → State
 afterFresh run s = stateBy (freshRefusal run (length (s .words)) (length (s .slots))) s (empty s)
+
+-- ---- the contracts of `step` and `fresh`: the answer, and the state that is left
+pub record Stepped (run : Run) (before : State) (step : Step) (r : Answer) (left : State) : Type 0 where
+  pub answer : r ≡ answerOf run before step
+  pub state : left ≡ after run before step
+
+pub record Freshened (run : Run) (before : State) (r : ℕ) (left : State) : Type 0 where
+  pub refusal : r ≡ freshRefusal run (length (before .words)) (length (before .slots))
+  pub state : left ≡ afterFresh run before

@@ -4,3 +4,6 @@ pub mod OneTable
 pub mod Posting
 pub mod Delivering
 pub mod Merging
+pub mod Deciding
+pub mod Lending
+pub mod Outcomes

@@ -2,20 +2,22 @@
 -- Assumes nothing.
 use Prim.Native.Nat.{ℕ, zero, suc, _*_, _≤_}
 use mathlib.Core.Path.{_≡_}
-use mathlib.Core.Bool.{Bool, true, not}
+use mathlib.Core.Bool.{Bool, true, not, cond}
 use mathlib.Core.List.{List, [], _∷_}
-use lib.ListN.{length}
+use lib.ListN.{length, replicate}
 use lib.Dec.{eqb}
 use Rattle.rules.specs.declared.Answer.{Answer}
 use Rattle.rules.specs.declared.Run.{Run}
 use Rattle.rules.specs.declared.Parcel.{Parcel}
+use Rattle.rules.specs.declared.Ledger.{Ledger}
+use Rattle.rules.specs.declared.Scan.{Scan}
 use Rattle.rules.specs.declared.Sight.{Sight}
 use Rattle.rules.specs.declared.Step.{Step}
 use Rattle.rules.specs.Lengths.{M}
 use Rattle.rules.specs.Operations.{unlessRefused}
 use Rattle.rules.specs.Parcels.{noParcel}
 use Rattle.rules.specs.Ledgers.{noCounter, absorbedCounter}
-use Rattle.rules.specs.Runs.{width, tablesSound, noFreeSlot, firstGiven, Test, _when_, sizesRight, allSound, stepTests, refusalIn, valueIn, wordsIn, placeIn, parcelIn, counterOf}
+use Rattle.rules.specs.Runs.{width, tablesSound, noFreeSlot, firstGiven, Test, _when_, sizesRight, allSound, stepTests, refusalIn, valueIn, wordsIn, placeIn, parcelIn, counterOf, freshRefusal}
 use Rattle.sites.specs.declared.verdict.Verdict.{Verdict}
 
 -- nothing to change
@@ -56,11 +58,27 @@ stepWords run ws si step = unlessRefused (stepRefusal run ws si step) ws (wordsI
 unfoldable pub judgement : Run → List ℕ → Sight → ℕ
 judgement run ws si = firstGiven ((1 when not (sizesRight run (length ws) (si .count))) ∷ (2 when not (allSound run ws si)) ∷ [])
 
-abbrev pub verdictOf : Run → List ℕ → Sight → Step → Verdict
-verdictOf run ws si step = verdictBy (refusalIn run ws si step) run ws si step
+-- the same from the parts that `step` hands over
+abbrev pub seenAs : Scan → Parcel → ℕ → Ledger → Sight
+seenAs scan held slots l = record { scan = scan; named = held; count = slots; ledger = l }
 
-abbrev pub wordsOf : Run → List ℕ → Sight → Step → List ℕ
-wordsOf run ws si step = unlessRefused (refusalIn run ws si step) ws (wordsIn run ws si step)
+unfoldable pub verdictOf : Run → List ℕ → Scan → Parcel → ℕ → Ledger → Step → Verdict
+verdictOf run ws scan held slots l step = let si = seenAs scan held slots l in verdictBy (refusalIn run ws si step) run ws si step
+
+unfoldable pub wordsOf : Run → List ℕ → Scan → Parcel → ℕ → Ledger → Step → List ℕ
+wordsOf run ws scan held slots l step = let si = seenAs scan held slots l in unlessRefused (refusalIn run ws si step) ws (wordsIn run ws si step)
+
+-- what a verdict answers
+abbrev pub answerIn : Verdict → Answer
+answerIn v = record { refusal = v .refusal; value = v .value }
+
+-- ---- a fresh run
+unfoldable pub freshWords : Run → List ℕ → ℕ → List ℕ
+freshWords run ws slots = unlessRefused (freshRefusal run (length ws) slots) ws (replicate (length ws) 0)
+
+-- all slots, or none on a refusal
+unfoldable pub slotsToClear : ℕ → ℕ → ℕ
+slotsToClear refusal n = cond (eqb refusal 0) n 0
 
 -- ---- what the functions below the judge ask of the words: right sizes and sound tables
 pub record Sized (run : Run) (n : ℕ) : Type 0 where

@@ -1,11 +1,17 @@
-// A run: the sizes, the judging of the three lent things, and the steps.
+// A run: the sizes, the judging of the three lent things, a fresh start and the eight steps. What each means is said in `specs/Runs.antt` of the
+// crate `rules`. `lent` is the only module that touches the slots and the ledger where they are lent; all else works by value and on the words.
+mod begin;
+mod decide;
 mod deliver;
 mod judge;
+mod lent;
 mod merges;
 mod one;
 mod places;
 mod posts;
 mod verdict;
 
+pub use lent::fresh;
+pub use lent::step;
 pub use places::Part;
 pub use verdict::Verdict;

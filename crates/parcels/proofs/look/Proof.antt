@@ -15,8 +15,8 @@ is-free-requires c κs = search needs
 is-occupied-requires : tie.Need-is-occupied-requires
 is-occupied-requires c κs = search needs
 
-add-t11 : tie.Need-add-t11
-add-t11 c = search needs
+add-more : tie.Need-add-more
+add-more c = search needs
 
 returns : tie.Need-returns
 returns c =
@@ -35,4 +35,4 @@ returns-3 c =
 
 pub look-spec : {M : Type 1} → statement M
 look-spec =
-    tie.close (tie.spec is-free-requires is-occupied-requires add-t11 returns returns-2 returns-3)
+    tie.close (tie.spec is-free-requires is-occupied-requires add-more returns returns-2 returns-3)

@@ -69,7 +69,7 @@ refuse-requires : tie.Need-refuse-requires
 refuse-requires c κs = search needs
 
 returns : tie.Need-returns
-returns c = 
+returns c =
     let a = c .before .before .before .before .args in
     let r = merge-from (a .run) (now (a .words)) (a .seen) (a .from) (a .to) (c .before .if1 .taken) in
     (c .refuse .ensures ∙ refused-verdict _ _ _ _ 2 r, refused-words _ _ _ _ 2 r)
@@ -78,7 +78,7 @@ refuse-requires-2 : tie.Need-refuse-requires-2
 refuse-requires-2 c κs = search needs
 
 returns-2 : tie.Need-returns-2
-returns-2 c = 
+returns-2 c =
     let t = c .before .before .before in
     let a = t .before .before .before .args in
     let r = merge-to (a .run) (now (a .words)) (a .seen) (a .from) (a .to) (t .if1 .left) (c .before .if2 .taken) in
@@ -88,7 +88,7 @@ refuse-requires-3 : tie.Need-refuse-requires-3
 refuse-requires-3 c κs = search needs
 
 returns-3 : tie.Need-returns-3
-returns-3 c = 
+returns-3 c =
     let u = c .before .before in
     let t = u .before .before in
     let a = t .before .before .before .args in
@@ -96,7 +96,7 @@ returns-3 c =
     (c .refuse3 .ensures ∙ refused-verdict _ _ _ _ 3 r, refused-words _ _ _ _ 3 r)
 
 part-of-requires : tie.Need-part-of-requires
-part-of-requires c κs = 
+part-of-requires c κs =
     let t = c .before .before .before in
     let a = t .before .before .before in
     (t .if1 .left, (a .pre .sized .few, a .pre .sized .small))
@@ -114,7 +114,7 @@ part-copy-words-end : tie.Need-part-copy-words-end
 part-copy-words-end c = let p = c .before in omega (arith, fits p, p .part-of .ensures)
 
 copy-words-requires : tie.Need-copy-words-requires
-copy-words-requires c κs = 
+copy-words-requires c κs =
     let p = c .before .before .before in
     (rw (source p) (omega (arith, wide p, small p)), refl)
 
@@ -122,7 +122,7 @@ sub-width : tie.Need-sub-width
 sub-width c = omega (arith, source-of c .part-of .ensures)
 
 part-of-requires-2 : tie.Need-part-of-requires-2
-part-of-requires-2 c κs = 
+part-of-requires-2 c κs =
     let p = source-of c in
     (to-in p, (start p .pre .sized .few, start p .pre .sized .small))
 
@@ -145,11 +145,10 @@ slice-aggregate-merge : tie.Need-slice-aggregate-merge
 slice-aggregate-merge c = sym (length-take-le _ _ (within (c .before .before .before)))
 
 merge-requires : tie.Need-merge-requires
-merge-requires c κs = 
+merge-requires c κs =
     let q = c .before .before in
     let p = source-of (q .before) in
-    let a = start p in
-    (
+    let a = start p in (
       rw (part-is (a .args .run) (W p) (a .args .to) _ _ (q .part-of2 .ensures .0) (q .part-of2 .ensures .1)) (site-sound (a .args .run) (W p) (a .pre) (a .args .to) (to-in p)),
       rw (copied (q .before)) (site-sound (a .args .run) (W p) (a .pre) (a .args .from) (from-in p)),
     )

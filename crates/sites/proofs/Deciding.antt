@@ -1,0 +1,66 @@
+-- The judgement before the step's own tests: where it refuses, that is the refusal; where it does not, the words are ready.
+-- Assumes nothing.
+use Prim.Native.Nat.{ℕ, zero, suc}
+use native.Mathlib.Nat.{suc-ne-zero}
+use mathlib.Core.Bool.{Bool, true, false, _&&_, not, cond}
+use mathlib.Core.Path.{_≡_, refl, sym, ap, _∙_}
+use mathlib.Core.List.{List}
+use lib.ListN.{length}
+use Rattle.rules.specs.declared.Run.{Run}
+use Rattle.rules.specs.declared.Sight.{Sight}
+use Rattle.rules.specs.declared.Step.{Step}
+use Rattle.rules.specs.View.{parts}
+use Rattle.rules.specs.Lengths.{M}
+use Rattle.rules.specs.Operations.{unlessRefused}
+use Rattle.rules.specs.Runs.{width, sizesRight, tablesSound, allSound, firstGiven, stepTests, refusalIn, wordsIn}
+use Rattle.sites.specs.declared.verdict.Verdict.{Verdict}
+use Rattle.sites.specs.Verdicts.{Ready, judgement, refusedVerdict, verdictBy, stepRefusal, stepVerdict, stepWords}
+use Rattle.sites.proofs.Judging.{sized}
+
+module _ (run : Run) (ws : List ℕ) (si : Sight) where
+  -- both tests passed
+  passed : judgement run ws si ≡ 0 → (sizesRight run (length ws) (si .count) ≡ true) × (allSound run ws si ≡ true)
+  unfolding judgement firstGiven
+  passed h = go (sizesRight run (length ws) (si .count)) refl (allSound run ws si) refl
+    where
+      go : (a : Bool) → sizesRight run (length ws) (si .count) ≡ a → (b : Bool) → allSound run ws si ≡ b
+          → (sizesRight run (length ws) (si .count) ≡ true) × (allSound run ws si ≡ true)
+      go true p true q = (p, q)
+      go true p false q = absurd (suc-ne-zero 1 (rw (p, q) at h))
+      go false p b q = absurd (suc-ne-zero 0 (rw p at h))
+
+  pub ready-of : judgement run ws si ≡ 0 → Ready run ws
+  unfolding allSound
+  ready-of h = record {
+    sized = sized run (length ws) (si .count) (passed h .0);
+    tables = parts (tablesSound M (width run) (run .sites) ws) _ (passed h .1) .0;
+  }
+
+  module _ (step : Step) where
+    refusal-judged : (judgement run ws si ≡ 0 → ⊥) → refusalIn run ws si step ≡ judgement run ws si
+    unfolding refusalIn judgement firstGiven
+    refusal-judged h = go (sizesRight run (length ws) (si .count)) refl (allSound run ws si) refl
+      where
+        go : (a : Bool) → sizesRight run (length ws) (si .count) ≡ a → (b : Bool) → allSound run ws si ≡ b → refusalIn run ws si step ≡ judgement run ws si
+        go true p true q = absurd (h (rw (p, q) refl))
+        go true p false q = rw (p, q)
+        go false p b q = rw p
+
+    refusal-own : judgement run ws si ≡ 0 → refusalIn run ws si step ≡ stepRefusal run ws si step
+    unfolding refusalIn stepRefusal firstGiven
+    refusal-own h = rw (passed h .0, passed h .1)
+
+    -- refused by the judge
+    pub judged-out : (judgement run ws si ≡ 0 → ⊥)
+        → (refusedVerdict (judgement run ws si) (si .count) ≡ verdictBy (refusalIn run ws si step) run ws si step) × (ws ≡ unlessRefused (refusalIn run ws si step) ws (wordsIn run ws si step))
+    judged-out h = go (judgement run ws si) refl
+      where
+        go : (r : ℕ) → judgement run ws si ≡ r
+            → (refusedVerdict (judgement run ws si) (si .count) ≡ verdictBy (refusalIn run ws si step) run ws si step) × (ws ≡ unlessRefused (refusalIn run ws si step) ws (wordsIn run ws si step))
+        go zero e = absurd (h e)
+        go (suc r) e = rw (refusal-judged h, e) (refl, refl)
+
+    -- let through by the judge
+    pub judged-in : judgement run ws si ≡ 0
+        → (stepVerdict run ws si step ≡ verdictBy (refusalIn run ws si step) run ws si step) × (stepWords run ws si step ≡ unlessRefused (refusalIn run ws si step) ws (wordsIn run ws si step))
+    judged-in h = rw (refusal-own h) (refl, refl)

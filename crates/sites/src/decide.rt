@@ -1,0 +1,75 @@
+// What a step comes to: the state is judged, then the step's own tests are made and the words changed. Everything here is by value but the words.
+use crate::deliver::on_deliver;
+use crate::judge::judge;
+use crate::merges::on_merge;
+use crate::one::on_add;
+use crate::one::on_query;
+use crate::one::on_remove;
+use crate::posts::on_again;
+use crate::posts::on_lose;
+use crate::posts::on_send;
+use crate::verdict::Verdict;
+use crate::verdict::refuse;
+use rules::Ledger;
+use rules::Parcel;
+use rules::Run;
+use rules::Scan;
+use rules::Sight;
+use rules::Step;
+ghost use mathlib.Core.Path.{_≡_};
+ghost use Rattle.rules.specs.Runs.{slotOf};
+ghost use Rattle.sites.specs.Verdicts.{verdictOf, wordsOf};
+
+// The slot that a step names. A step that names none reads slot 0, and makes nothing of it.
+pub(crate) fn slot_of(step: Step) -> usize
+    ensures { λ r. ⌜ r ≡ slotOf step ⌝ }
+{
+    match step {
+        Step::Add { site: _, id: _ } => 0,
+        Step::Remove { site: _, id: _ } => 0,
+        Step::Query { site: _, id: _ } => 0,
+        Step::Send {
+            from: _,
+            to: _,
+            id: _,
+        } => 0,
+        Step::Merge { from: _, to: _ } => 0,
+        Step::Deliver { slot } => slot as usize,
+        Step::Again { slot } => slot as usize,
+        Step::Lose { slot } => slot as usize,
+    }
+}
+
+// Every test of a step, and every change of the words.
+pub(crate) fn decide(
+    words: &mut [u64],
+    run: Run,
+    scan: Scan,
+    held: Parcel,
+    slots: usize,
+    ledger: Ledger,
+    step: Step,
+) -> Verdict
+    ensures { λ r. ⌜ (r ≡ verdictOf run (now (words .entry)) scan held slots ledger step) × (now (words .exit) ≡ wordsOf run (now (words .entry)) scan held slots ledger step) ⌝ }
+{
+    let seen = Sight {
+        scan: scan,
+        named: held,
+        count: slots,
+        ledger: ledger,
+    };
+    let judged = judge(words, run, seen);
+    if judged != 0 {
+        return refuse(judged, seen);
+    }
+    match step {
+        Step::Add { site, id } => on_add(words, run, seen, site, id),
+        Step::Remove { site, id } => on_remove(words, run, seen, site, id),
+        Step::Query { site, id } => on_query(words, run, seen, site, id),
+        Step::Send { from, to, id } => on_send(words, run, seen, from, to, id),
+        Step::Merge { from, to } => on_merge(words, run, seen, from, to),
+        Step::Deliver { slot } => on_deliver(words, run, seen, slot),
+        Step::Again { slot } => on_again(run, seen, slot),
+        Step::Lose { slot } => on_lose(run, seen, slot),
+    }
+}
