@@ -64,3 +64,11 @@ module _ (run : Run) (ws : List ℕ) (si : Sight) where
     pub judged-in : judgement run ws si ≡ 0
         → (stepVerdict run ws si step ≡ verdictBy (refusalIn run ws si step) run ws si step) × (stepWords run ws si step ≡ unlessRefused (refusalIn run ws si step) ws (wordsIn run ws si step))
     judged-in h = rw (refusal-own h) (refl, refl)
+
+    -- a step that leaves the words
+    pub still-words : wordsIn run ws si step ≡ ws → ws ≡ stepWords run ws si step
+    still-words h = rw h (go (stepRefusal run ws si step))
+      where
+        go : (r : ℕ) → ws ≡ unlessRefused r ws ws
+        go zero = refl
+        go (suc r) = refl

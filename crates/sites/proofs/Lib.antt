@@ -7,3 +7,4 @@ pub mod Merging
 pub mod Deciding
 pub mod Lending
 pub mod Outcomes
+pub mod Beginning
