@@ -1,0 +1,7 @@
+-- A kept run as a state.
+-- Assumes nothing.
+use Rattle.rules.specs.Runs.{State, lent}
+use Rattle.kept.specs.declared.Kept.{Kept}
+
+abbrev pub keptState : Kept → State
+keptState k = lent (k .words) (k .slots) (k .ledger)
