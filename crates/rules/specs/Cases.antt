@@ -11,6 +11,14 @@ use Rattle.rules.specs.declared.Found.the-variants.{At, Absent}
 use Rattle.rules.specs.declared.Answer.{Answer}
 use Rattle.rules.specs.Lengths.{M, listed, afterAdd, afterRemove, join}
 use Rattle.rules.specs.Table.{unused, soundFrom, sound, lengthOf, held, shown, rank, foundOf, push, withLength, raised, heldWith, merged, newIds, rises}
+use Rattle.rules.specs.declared.Run.{Run}
+use Rattle.rules.specs.declared.Parcel.{Parcel}
+use Rattle.rules.specs.declared.Ledger.{Ledger}
+use Rattle.rules.specs.declared.Step.{Step}
+use Rattle.rules.specs.declared.Step.the-variants.{Add, Remove, Query, Send, Merge, Deliver, Again, Lose}
+use Rattle.rules.specs.Parcels.{noParcel, isFree, isOccupied, slotsSound, waiting, lowestFree, cleared}
+use Rattle.rules.specs.Ledgers.{ledgerSound, emptyLedger, oneMore, raisedIf}
+use Rattle.rules.specs.Runs.{State, lent, tableAt, withTable, sizesRight, tablesSound, allSound, slotOf, firstGiven, refusalIn, valueIn, wordsIn, placeIn, parcelIn, counterOf, refusalOf, valueOf, answerOf, after, freshRefusal, afterFresh}
 use Rattle.rules.specs.Operations.{queryAnswer, raiseRefusal, raiseAnswer, raiseTable, addAnswer, addTable, absorbAnswer, absorbTable, removedLength, removeRefusal, removeAnswer, removeTable, mergeRefusal, mergeAnswer, mergeTable}
 
 abbrev pub all : List Bool → Bool
@@ -56,6 +64,50 @@ seven-eight = 7 ∷ 1 ∷ 8 ∷ 3 ∷ []
 abbrev pub seven-eight-nine : List ℕ
 seven-eight-nine = 7 ∷ 2 ∷ 8 ∷ 3 ∷ 9 ∷ 1 ∷ []
 
+-- ---- a run of two sites with one place for each, and one slot
+abbrev pub two-sites : Run
+two-sites = record { sites = 2; capacity = 1 }
+
+abbrev pub ledger-of : ℕ → ℕ → ℕ → ℕ → Ledger
+ledger-of s c a l = record { sent = s; copied = c; absorbed = a; lost = l }
+
+abbrev pub parcel : ℕ → ℕ → ℕ → Parcel
+parcel k e n = record { site = k; id = e; length = n }
+
+-- nothing anywhere; 7 at site 0; 7 at site 0 and 8 at site 1, each table full
+abbrev pub nothing : State
+nothing = lent (0 ∷ 0 ∷ 0 ∷ 0 ∷ []) (noParcel ∷ []) emptyLedger
+
+abbrev pub seven-at-0 : State
+seven-at-0 = lent (7 ∷ 1 ∷ 0 ∷ 0 ∷ []) (noParcel ∷ []) emptyLedger
+
+-- the same with a parcel (1, e, n) waiting, and with the counts
+abbrev pub waiting-for-1 : ℕ → ℕ → Ledger → State
+waiting-for-1 e n l = lent (7 ∷ 1 ∷ 8 ∷ 1 ∷ []) (parcel 1 e n ∷ []) l
+
+abbrev pub same-parcel : Parcel → Parcel → Bool
+same-parcel p q = eqb (p .site) (q .site) && (eqb (p .id) (q .id) && eqb (p .length) (q .length))
+
+abbrev pub same-slots : List Parcel → List Parcel → Bool
+same-slots [] [] = true
+same-slots [] (q ∷ qs) = false
+same-slots (p ∷ ps) [] = false
+same-slots (p ∷ ps) (q ∷ qs) = same-parcel p q && same-slots ps qs
+
+abbrev pub same-ledger : Ledger → Ledger → Bool
+same-ledger l m = eqb (l .sent) (m .sent) && (eqb (l .copied) (m .copied) && (eqb (l .absorbed) (m .absorbed) && eqb (l .lost) (m .lost)))
+
+abbrev pub same-state : State → State → Bool
+same-state s t = same (s .words) (t .words) && (same-slots (s .slots) (t .slots) && same-ledger (s .ledger) (t .ledger))
+
+-- a step is refused with a number, and leaves the state
+abbrev pub step-refused : Run → State → Step → ℕ → Bool
+step-refused run s step r = refuses (answerOf run s step) r && same-state (after run s step) s
+
+-- a step is accepted with a value, and leaves another state
+abbrev pub step-taken : Run → State → Step → ℕ → State → Bool
+step-taken run s step v t = gives (answerOf run s step) v && same-state (after run s step) t
+
 unfoldable pub cases : List Bool
 cases =
     -- P1 empty table, query 7: 0
@@ -92,8 +144,34 @@ cases =
     ∷ eqb (held seven-nine) 2 ∷ eqb (shown seven-nine) 1 ∷ eqb (shown seven-eight) 2
     ∷ isAt (foundOf seven-nine 7) 0 ∷ isAt (foundOf seven-nine 9) 1 ∷ not (isAt (foundOf seven-nine 8) 1)
     ∷ eqb (rises (seven 1) (seven 1)) 0 ∷ eqb (rises (seven 1) (seven 2)) 1
+    -- P10 in a run: a delivery refused with 8 leaves its parcel waiting; one of an id that is held is accepted, counted, and frees its slot
+    ∷ step-refused two-sites (waiting-for-1 9 1 (ledger-of 1 0 0 0)) (Deliver 0) 8
+    ∷ step-taken two-sites (waiting-for-1 8 2 (ledger-of 1 0 0 0)) (Deliver 0) 2 (lent (7 ∷ 1 ∷ 8 ∷ 2 ∷ []) (noParcel ∷ []) (ledger-of 1 0 1 0))
+    -- a stale update is absorbed and counted too; a lost one is counted as lost
+    ∷ step-taken two-sites (waiting-for-1 8 1 (ledger-of 1 0 0 0)) (Deliver 0) 1 (lent (7 ∷ 1 ∷ 8 ∷ 1 ∷ []) (noParcel ∷ []) (ledger-of 1 0 1 0))
+    ∷ step-taken two-sites (waiting-for-1 8 1 (ledger-of 1 0 0 0)) (Lose 0) 0 (lent (7 ∷ 1 ∷ 8 ∷ 1 ∷ []) (noParcel ∷ []) (ledger-of 1 0 0 1))
+    -- send puts the sender's length into the lowest free slot; again copies it; merge changes the second site
+    ∷ step-taken two-sites seven-at-0 (Send 0 1 7) 0 (lent (7 ∷ 1 ∷ 0 ∷ 0 ∷ []) (parcel 1 7 1 ∷ []) (ledger-of 1 0 0 0))
+    ∷ step-taken two-sites (lent (7 ∷ 1 ∷ 0 ∷ 0 ∷ []) (noParcel ∷ parcel 1 7 1 ∷ noParcel ∷ []) (ledger-of 1 0 0 0)) (Again 1) 0 (lent (7 ∷ 1 ∷ 0 ∷ 0 ∷ []) (parcel 1 7 1 ∷ parcel 1 7 1 ∷ noParcel ∷ []) (ledger-of 1 1 0 0))
+    ∷ step-taken two-sites seven-at-0 (Merge 0 1) 1 (lent (7 ∷ 1 ∷ 7 ∷ 1 ∷ []) (noParcel ∷ []) emptyLedger)
+    -- the order of the refusals: each state would also earn the later number
+    ∷ step-refused (record { sites = 2; capacity = 2 }) (lent (7 ∷ 0 ∷ 0 ∷ 0 ∷ []) (noParcel ∷ []) emptyLedger) (Add 9 7) 1
+    ∷ step-refused two-sites (lent (7 ∷ 0 ∷ 0 ∷ 0 ∷ []) (noParcel ∷ []) emptyLedger) (Add 9 7) 2
+    ∷ step-refused two-sites nothing (Send 5 5 7) 3 ∷ step-refused two-sites nothing (Merge 5 5) 3
+    ∷ step-refused two-sites nothing (Send 0 0 7) 4
+    ∷ step-refused two-sites (waiting-for-1 8 1 (ledger-of 1 0 0 0)) (Send 0 1 9) 6
+    ∷ step-refused two-sites (waiting-for-1 8 1 (ledger-of M 0 4294967294 0)) (Send 0 1 7) 9
+    ∷ step-refused two-sites (waiting-for-1 8 1 (ledger-of 0 M 4294967294 0)) (Again 0) 9
+    ∷ step-refused two-sites (waiting-for-1 9 1 (ledger-of M 1 M 0)) (Deliver 0) 8
+    ∷ step-refused two-sites (waiting-for-1 8 1 (ledger-of M 1 M 0)) (Deliver 0) 10
+    ∷ step-refused two-sites (waiting-for-1 8 1 (ledger-of M 1 0 M)) (Lose 0) 10
+    ∷ step-refused two-sites nothing (Deliver 0) 5 ∷ step-refused two-sites nothing (Lose 1) 5
+    ∷ step-refused two-sites seven-at-0 (Add 0 8) 8
+    -- a fresh run judges the sizes alone
+    ∷ same-state (afterFresh two-sites (waiting-for-1 9 0 (ledger-of 5 5 5 5))) nothing
+    ∷ eqb (freshRefusal (record { sites = 17; capacity = 0 }) 0 0) 1 ∷ eqb (freshRefusal (record { sites = 16; capacity = 0 }) 0 1024) 0
     ∷ []
 
 pub cases-hold : all cases ≡ true
-unfolding cases listed afterAdd afterRemove unused soundFrom lengthOf held shown rank push withLength raised heldWith merged newIds rises raiseRefusal raiseAnswer raiseTable removedLength removeRefusal removeTable mergeRefusal mergeAnswer mergeTable
+unfolding cases listed afterAdd afterRemove unused soundFrom lengthOf held shown rank push withLength raised heldWith merged newIds rises raiseRefusal raiseAnswer raiseTable removedLength removeRefusal removeTable mergeRefusal mergeAnswer mergeTable isFree isOccupied slotsSound waiting lowestFree cleared ledgerSound oneMore raisedIf tableAt withTable sizesRight tablesSound allSound slotOf firstGiven refusalIn valueIn wordsIn placeIn parcelIn counterOf refusalOf valueOf after freshRefusal afterFresh
 cases-hold = refl

@@ -15,6 +15,9 @@ pub struct Verdict {
     pub parcel: Parcel,
 }
 
+// No counter is earned.
+const NO_COUNTER: u64 = 0;
+
 // What stands in a free slot.
 pub(crate) fn no_parcel() -> Parcel
     ensures { λ r. ⌜ r ≡ noParcel ⌝ }
@@ -34,7 +37,7 @@ pub(crate) fn refuse(number: u32, seen: Sight) -> Verdict
     Verdict {
         refusal: number,
         value: 0,
-        counter: 0,
+        counter: NO_COUNTER,
         at: seen.count,
         parcel: none,
     }
@@ -48,7 +51,7 @@ pub(crate) fn hand_on(answer: Answer, seen: Sight) -> Verdict
     Verdict {
         refusal: answer.refusal,
         value: answer.value,
-        counter: 0,
+        counter: NO_COUNTER,
         at: seen.count,
         parcel: none,
     }
