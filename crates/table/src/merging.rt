@@ -1,7 +1,7 @@
 // A whole table joined in: counted first, then filled from the last place backwards, so that each entry is placed once.
 use crate::judge::held;
-use crate::lengths::join;
 use crate::places::write;
+use lengths::join;
 use rules::Answer;
 ghost use mathlib.Core.Path.{_≡_};
 ghost use Prim.Native.Nat.{_+_, _*_, _≤_};

@@ -1,10 +1,10 @@
 // One id's length raised: by an add, by a remove, or by an update that arrives.
 use crate::find::lookup;
 use crate::judge::held;
-use crate::lengths::after_add;
-use crate::lengths::after_remove;
-use crate::lengths::join;
 use crate::places::write;
+use lengths::after_add;
+use lengths::after_remove;
+use lengths::join;
 use rules::Answer;
 use rules::Found;
 ghost use mathlib.Core.Path.{_≡_};

@@ -1,4 +1,4 @@
--- `table::lengths::after_remove`: by parity, and by whether the length after is above the largest.
+-- `lengths::after_remove`: by parity, and by whether the length after is above the largest.
 -- Assumes nothing.
 use Prim.Native.Nat.{suc}
 use native.Mathlib.Numerals.{add-one}
@@ -8,8 +8,8 @@ use borrow.Author.Tests.{lt-ltb, le-ltb}
 use Rattle.rules.specs.Lengths.{M}
 use Rattle.rules.specs.LengthLaws.{odd-listed, even-listed, remove-listed, remove-unlisted}
 use Rattle.rules.specs.Operations.{removedLength}
-use Rattle.table.proofs.lengths.after_remove.Statement.{statement}
-use Rattle.table.proofs.lengths.after_remove.Tie as tie
+use Rattle.lengths.proofs.after_remove.Statement.{statement}
+use Rattle.lengths.proofs.after_remove.Tie as tie
 
 returns : tie.Need-returns
 unfolding removedLength

@@ -1,9 +1,9 @@
--- `table::lengths::listed`: the code is the definition.
+-- `lengths::listed`: the code is the definition.
 -- Assumes nothing.
 use borrow.Author.Needs.{needs}
 use Rattle.rules.specs.Lengths.{listed}
-use Rattle.table.proofs.lengths.listed.Statement.{statement}
-use Rattle.table.proofs.lengths.listed.Tie as tie
+use Rattle.lengths.proofs.listed.Statement.{statement}
+use Rattle.lengths.proofs.listed.Tie as tie
 
 returns : tie.Need-returns
 unfolding listed

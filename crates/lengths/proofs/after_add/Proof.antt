@@ -1,10 +1,10 @@
--- `table::lengths::after_add`: by parity.
+-- `lengths::after_add`: by parity.
 -- Assumes nothing.
 use native.Mathlib.Omega.{arith}
 use borrow.Author.Needs.{needs}
 use Rattle.rules.specs.LengthLaws.{odd-listed, even-listed, add-listed, add-unlisted}
-use Rattle.table.proofs.lengths.after_add.Statement.{statement}
-use Rattle.table.proofs.lengths.after_add.Tie as tie
+use Rattle.lengths.proofs.after_add.Statement.{statement}
+use Rattle.lengths.proofs.after_add.Tie as tie
 
 add-result : tie.Need-add-result
 add-result c = search needs

@@ -1,4 +1,4 @@
-// The rules on one length, by value.
+// The rules on one length, by value: the paper's Figure 4 for one id. What each means is said in `specs/Lengths.antt` of the crate `rules`.
 use rules::Answer;
 use rules::M;
 ghost use mathlib.Core.Path.{_≡_};
