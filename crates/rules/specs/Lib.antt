@@ -15,3 +15,6 @@ pub mod Parcels
 pub mod Ledgers
 pub mod Runs
 pub mod Sites
+pub mod SlotLaws
+pub mod LedgerLaws
+pub mod RunLaws
