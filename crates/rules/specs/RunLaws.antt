@@ -53,3 +53,47 @@ module _ (run : Run) (s : State) (step : Step) where
   pub only-named-slot : (i : ℕ) → (i ≡ placeIn (sightOf run s step) step → ⊥) → getD (after run s step .slots) i noParcel ≡ getD (s .slots) i noParcel
   only-named-slot i ne = after-keeps (λ u. getD (u .slots) i noParcel ≡ getD (s .slots) i noParcel) refl
       (λ a. getD-set-other (s .slots) (placeIn (sightOf run s step) step) i (parcelIn run (s .words) (sightOf run s step) step) noParcel ne)
+
+-- ---- a sound state: the sizes right, and every table, every slot and the ledger as laid out
+abbrev pub StateSound : Run → State → Type 0
+StateSound run s =
+    (sizesRight run (length (s .words)) (length (s .slots)) ≡ true)
+    × (tablesSound M (width run) (run .sites) (s .words) ≡ true)
+    × (slotsSound M (run .sites) (s .slots) ≡ true)
+    × (ledgerSound M (waiting (s .slots)) (s .ledger) ≡ true)
+
+-- where no test of a list is given, the first is not, and none of the others
+pub pass : (n : ℕ) (b : Bool) (ts : List Test) → firstGiven ((suc n when b) ∷ ts) ≡ 0 → (b ≡ false) × (firstGiven ts ≡ 0)
+unfolding firstGiven
+pass n true ts h = absurd (suc-ne-zero n h)
+pass n false ts h = (refl, h)
+
+-- both parts of an or that does not hold
+pub neither : (a b : Bool) → a || b ≡ false → (a ≡ false) × (b ≡ false)
+neither true b h = absurd (false≢true (sym h))
+neither false b h = (refl, h)
+
+module _ (run : Run) (s : State) (step : Step) where
+  -- what the state is, as 2 judges it
+  pub sound-all : StateSound run s → allSound run (s .words) (sightOf run s step) ≡ true
+  unfolding allSound
+  sound-all h = rw (h .1, h .2, h .3)
+
+  -- in a sound state only the step's own tests can refuse, so neither 1 nor 2 is ever met
+  pub sound-judged : StateSound run s → refusalOf run s step ≡ firstGiven (stepTests run (s .words) (sightOf run s step) step)
+  unfolding refusalOf refusalIn firstGiven
+  sound-judged h = rw (h .0, sound-all h)
+
+  -- an accepted step was taken in a sound state
+  pub accepted-sound : refusalOf run s step ≡ 0 → StateSound run s
+  unfolding refusalOf refusalIn allSound
+  accepted-sound h =
+      let a = pass 0 _ _ h in
+      let b = pass 1 _ _ (a .1) in
+      let c = parts (tablesSound M (width run) (run .sites) (s .words)) _ (not-false _ (b .0)) in
+      let d = parts (slotsSound M (run .sites) (s .slots)) _ (c .1) in
+      (not-false _ (a .0), c .0, d .0, d .1)
+
+  -- and none of its own tests refused it
+  pub accepted-own : refusalOf run s step ≡ 0 → firstGiven (stepTests run (s .words) (sightOf run s step) step) ≡ 0
+  accepted-own h = sym (sound-judged (accepted-sound h)) ∙ h
