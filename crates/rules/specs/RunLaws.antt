@@ -10,7 +10,7 @@ use mathlib.Core.List.{List, [], _∷_}
 use lib.ListN.{length, getD, set, replicate, length-set, length-replicate}
 use lib.Seq.{getD-set-other}
 use lib.Dec.{leb, ltb, eqb}
-use borrow.Author.Tests.{leb-false, eqb-true, eqb-false, not-false}
+use borrow.Author.Tests.{leb-false, eqb-true, eqb-false, ne-eqb, not-false}
 use Rattle.rules.specs.declared.Answer.{Answer}
 use Rattle.rules.specs.declared.Run.{Run}
 use Rattle.rules.specs.declared.Parcel.{Parcel}
@@ -19,10 +19,13 @@ use Rattle.rules.specs.declared.Sight.{Sight}
 use Rattle.rules.specs.declared.Step.{Step}
 use Rattle.rules.specs.declared.Step.the-variants.{Add, Remove, Query, Send, Merge, Deliver, Again, Lose}
 use Rattle.rules.specs.Lengths.{M}
+use Rattle.rules.specs.Table.{sound, unused, soundFrom, lengthOf}
 use Rattle.rules.specs.View.{parts}
 use Rattle.rules.specs.Parcels.{noParcel, isFree, isOccupied, slotsSound, waiting, lowestFree, cleared}
-use Rattle.rules.specs.Ledgers.{ledgerSound, raisedLedger, emptyLedger}
-use Rattle.rules.specs.Runs.{State, width, tableAt, withTable, sizesRight, tablesSound, allSound, sightOf, Test, _when_, firstGiven, stepTests, refusalIn, wordsIn, placeIn, parcelIn, counterOf, refusalOf, answerOf, moved, stateBy, after}
+use Rattle.rules.specs.Ledgers.{ledgerSound, raisedLedger, emptyLedger, raisedIf}
+use Rattle.rules.specs.LedgerLaws.{Balanced, balanced, balanced-sound, one-more, raised-none, sent-sound, copied-sound, absorbed-sound, lost-sound}
+use Rattle.rules.specs.SlotLaws.{occupied-by, occupied-has, occupied-not-free, set-slots-sound, waiting-taken, waiting-freed, lowest-free, cleared-sound, cleared-length, cleared-waiting}
+use Rattle.rules.specs.Runs.{State, width, tableAt, withTable, sizesRight, tablesSound, allSound, slotOf, sightOf, Test, _when_, firstGiven, stepTests, refusalIn, wordsIn, placeIn, parcelIn, counterOf, refusalOf, answerOf, moved, stateBy, after, freshRefusal, empty, afterFresh}
 
 -- ---- a refused step
 module _ (run : Run) (s : State) (step : Step) where
@@ -97,3 +100,206 @@ module _ (run : Run) (s : State) (step : Step) where
   -- and none of its own tests refused it
   pub accepted-own : refusalOf run s step ≡ 0 → firstGiven (stepTests run (s .words) (sightOf run s step) step) ≡ 0
   accepted-own h = sym (sound-judged (accepted-sound h)) ∙ h
+
+-- ---- the same, by the numbers
+not-given : (k n : ℕ) (b : Bool) (ts : List Test) → (n ≡ k → ⊥) → (firstGiven ts ≡ k → ⊥) → firstGiven ((n when b) ∷ ts) ≡ k → ⊥
+unfolding firstGiven
+not-given k n true ts p q h = p h
+not-given k n false ts p q h = q h
+
+none-given : (k : ℕ) → 1 ≤ k → firstGiven [] ≡ k → ⊥
+unfolding firstGiven
+none-given k p h = omega arith
+
+-- a step's own tests have the numbers from 3 up
+own-numbers : (k : ℕ) → 1 ≤ k → k ≤ 2 → (run : Run) (ws : List ℕ) (si : Sight) (step : Step) → firstGiven (stepTests run ws si step) ≡ k → ⊥
+own-numbers k p q run ws si (Add j e) = not-given k 3 _ _ (omega arith) (not-given k 8 _ _ (omega arith) (none-given k p))
+own-numbers k p q run ws si (Remove j e) = not-given k 3 _ _ (omega arith) (not-given k 7 _ _ (omega arith) (none-given k p))
+own-numbers k p q run ws si (Query j e) = not-given k 3 _ _ (omega arith) (none-given k p)
+own-numbers k p q run ws si (Send f t e) =
+    not-given k 3 _ _ (omega arith) (not-given k 4 _ _ (omega arith) (not-given k 6 _ _ (omega arith) (not-given k 9 _ _ (omega arith) (not-given k 10 _ _ (omega arith) (none-given k p)))))
+own-numbers k p q run ws si (Merge f t) = not-given k 3 _ _ (omega arith) (not-given k 4 _ _ (omega arith) (not-given k 8 _ _ (omega arith) (none-given k p)))
+own-numbers k p q run ws si (Deliver i) = not-given k 5 _ _ (omega arith) (not-given k 8 _ _ (omega arith) (not-given k 10 _ _ (omega arith) (none-given k p)))
+own-numbers k p q run ws si (Again i) = not-given k 5 _ _ (omega arith) (not-given k 9 _ _ (omega arith) (not-given k 10 _ _ (omega arith) (none-given k p)))
+own-numbers k p q run ws si (Lose i) = not-given k 5 _ _ (omega arith) (not-given k 10 _ _ (omega arith) (none-given k p))
+
+-- no step in a sound state is refused with 1 or with 2
+pub never-unsound : (run : Run) (s : State) (step : Step) → StateSound run s → (refusalOf run s step ≡ 1 → ⊥) × (refusalOf run s step ≡ 2 → ⊥)
+never-unsound run s step h =
+    (λ e. own-numbers 1 (omega arith) (omega arith) run (s .words) (sightOf run s step) step (sym (sound-judged run s step h) ∙ e),
+     λ e. own-numbers 2 (omega arith) (omega arith) run (s .words) (sightOf run s step) step (sym (sound-judged run s step h) ∙ e))
+
+-- ---- what an accepted step's own tests say
+module _ (run : Run) (s : State) where
+  pub add-own : (k e : ℕ) → refusalOf run s (Add k e) ≡ 0 → k < run .sites
+  add-own k e h = leb-false _ _ (pass 2 _ _ (accepted-own run s (Add k e) h) .0)
+
+  pub remove-own : (k e : ℕ) → refusalOf run s (Remove k e) ≡ 0 → k < run .sites
+  remove-own k e h = leb-false _ _ (pass 2 _ _ (accepted-own run s (Remove k e) h) .0)
+
+  pub merge-own : (f t : ℕ) → refusalOf run s (Merge f t) ≡ 0 → (f < run .sites) × (t < run .sites)
+  merge-own f t h =
+      let a = neither _ _ (pass 2 _ _ (accepted-own run s (Merge f t) h) .0) in
+      (leb-false _ _ (a .0), leb-false _ _ (a .1))
+
+  pub send-own : (f t e : ℕ) → refusalOf run s (Send f t e) ≡ 0
+      → (f < run .sites) × (t < run .sites) × (1 ≤ lengthOf (tableAt run (s .words) f) e) × (lowestFree (s .slots) < length (s .slots)) × (eqb (s .ledger .sent) M ≡ false)
+  send-own f t e h =
+      let a = pass 2 _ _ (accepted-own run s (Send f t e) h) in
+      let b = pass 3 _ _ (a .1) in
+      let c = pass 5 _ _ (b .1) in
+      let d = pass 8 _ _ (c .1) in
+      let g = pass 9 _ _ (d .1) in
+      let some : 1 ≤ lengthOf (tableAt run (s .words) f) e = omega (arith, eqb-false (lengthOf (tableAt run (s .words) f) e) 0 (c .0)) in
+      let sites = neither _ _ (a .0) in
+      (leb-false _ _ (sites .0), leb-false _ _ (sites .1), some, leb-false _ _ (d .0), g .0)
+
+  -- a slot where something is
+  there : (i : ℕ) (p : Parcel) → leb (length (s .slots)) i || not (isOccupied M (run .sites) p) ≡ false → (i < length (s .slots)) × (isOccupied M (run .sites) p ≡ true)
+  there i p h =
+      let a = neither _ _ h in
+      (leb-false _ _ (a .0), not-false _ (a .1))
+
+  pub deliver-own : (i : ℕ) → refusalOf run s (Deliver i) ≡ 0
+      → (i < length (s .slots)) × (isOccupied M (run .sites) (getD (s .slots) i noParcel) ≡ true) × (eqb (s .ledger .absorbed) M ≡ false)
+  unfolding slotOf
+  deliver-own i h =
+      let a = pass 4 _ _ (accepted-own run s (Deliver i) h) in
+      let b = pass 7 _ _ (a .1) in
+      let c = pass 9 _ _ (b .1) in
+      let d = there i (getD (s .slots) i noParcel) (a .0) in
+      (d .0, d .1, c .0)
+
+  pub again-own : (i : ℕ) → refusalOf run s (Again i) ≡ 0
+      → (i < length (s .slots)) × (isOccupied M (run .sites) (getD (s .slots) i noParcel) ≡ true) × (lowestFree (s .slots) < length (s .slots)) × (eqb (s .ledger .copied) M ≡ false)
+  unfolding slotOf
+  again-own i h =
+      let a = pass 4 _ _ (accepted-own run s (Again i) h) in
+      let b = pass 8 _ _ (a .1) in
+      let c = pass 9 _ _ (b .1) in
+      let d = there i (getD (s .slots) i noParcel) (a .0) in
+      (d .0, d .1, leb-false _ _ (b .0), c .0)
+
+  pub lose-own : (i : ℕ) → refusalOf run s (Lose i) ≡ 0
+      → (i < length (s .slots)) × (isOccupied M (run .sites) (getD (s .slots) i noParcel) ≡ true) × (eqb (s .ledger .lost) M ≡ false)
+  unfolding slotOf
+  lose-own i h =
+      let a = pass 4 _ _ (accepted-own run s (Lose i) h) in
+      let b = pass 9 _ _ (a .1) in
+      let d = there i (getD (s .slots) i noParcel) (a .0) in
+      (d .0, d .1, b .0)
+
+-- ---- the counters: each is one more exactly for an accepted step of its own kind
+unfoldable pub isSend : Step → Bool
+isSend (Add k e) = false
+isSend (Remove k e) = false
+isSend (Query k e) = false
+isSend (Send f t e) = true
+isSend (Merge f t) = false
+isSend (Deliver i) = false
+isSend (Again i) = false
+isSend (Lose i) = false
+
+unfoldable pub isAgain : Step → Bool
+isAgain (Add k e) = false
+isAgain (Remove k e) = false
+isAgain (Query k e) = false
+isAgain (Send f t e) = false
+isAgain (Merge f t) = false
+isAgain (Deliver i) = false
+isAgain (Again i) = true
+isAgain (Lose i) = false
+
+unfoldable pub isDeliver : Step → Bool
+isDeliver (Add k e) = false
+isDeliver (Remove k e) = false
+isDeliver (Query k e) = false
+isDeliver (Send f t e) = false
+isDeliver (Merge f t) = false
+isDeliver (Deliver i) = true
+isDeliver (Again i) = false
+isDeliver (Lose i) = false
+
+unfoldable pub isLose : Step → Bool
+isLose (Add k e) = false
+isLose (Remove k e) = false
+isLose (Query k e) = false
+isLose (Send f t e) = false
+isLose (Merge f t) = false
+isLose (Deliver i) = false
+isLose (Again i) = false
+isLose (Lose i) = true
+
+-- the step is not refused
+abbrev pub isAccepted : Run → State → Step → Bool
+isAccepted run s step = eqb (refusalOf run s step) 0
+
+module _ (run : Run) (s : State) where
+  books : (step : Step) → refusalOf run s step ≡ 0 → Balanced M (waiting (s .slots)) (s .ledger)
+  books step h = balanced M (waiting (s .slots)) (s .ledger) (accepted-sound run s step h .3)
+
+  moved-sent : (step : Step) → refusalOf run s step ≡ 0 → moved run s step .ledger .sent ≡ cond (isSend step) (suc (s .ledger .sent)) (s .ledger .sent)
+  unfolding raisedIf counterOf isSend
+  moved-sent (Add k e) h = refl
+  moved-sent (Remove k e) h = refl
+  moved-sent (Query k e) h = refl
+  moved-sent (Send f t e) h = one-more M (s .ledger .sent) (books (Send f t e) h .sent-fits) (send-own run s f t e h .4)
+  moved-sent (Merge f t) h = refl
+  moved-sent (Deliver i) h = refl
+  moved-sent (Again i) h = refl
+  moved-sent (Lose i) h = refl
+
+  moved-copied : (step : Step) → refusalOf run s step ≡ 0 → moved run s step .ledger .copied ≡ cond (isAgain step) (suc (s .ledger .copied)) (s .ledger .copied)
+  unfolding raisedIf counterOf isAgain
+  moved-copied (Add k e) h = refl
+  moved-copied (Remove k e) h = refl
+  moved-copied (Query k e) h = refl
+  moved-copied (Send f t e) h = refl
+  moved-copied (Merge f t) h = refl
+  moved-copied (Deliver i) h = refl
+  moved-copied (Again i) h = one-more M (s .ledger .copied) (books (Again i) h .copied-fits) (again-own run s i h .3)
+  moved-copied (Lose i) h = refl
+
+  moved-absorbed : (step : Step) → refusalOf run s step ≡ 0 → moved run s step .ledger .absorbed ≡ cond (isDeliver step) (suc (s .ledger .absorbed)) (s .ledger .absorbed)
+  unfolding raisedIf counterOf isDeliver
+  moved-absorbed (Add k e) h = refl
+  moved-absorbed (Remove k e) h = refl
+  moved-absorbed (Query k e) h = refl
+  moved-absorbed (Send f t e) h = refl
+  moved-absorbed (Merge f t) h = refl
+  moved-absorbed (Deliver i) h = one-more M (s .ledger .absorbed) (books (Deliver i) h .absorbed-fits) (deliver-own run s i h .2)
+  moved-absorbed (Again i) h = refl
+  moved-absorbed (Lose i) h = refl
+
+  moved-lost : (step : Step) → refusalOf run s step ≡ 0 → moved run s step .ledger .lost ≡ cond (isLose step) (suc (s .ledger .lost)) (s .ledger .lost)
+  unfolding raisedIf counterOf isLose
+  moved-lost (Add k e) h = refl
+  moved-lost (Remove k e) h = refl
+  moved-lost (Query k e) h = refl
+  moved-lost (Send f t e) h = refl
+  moved-lost (Merge f t) h = refl
+  moved-lost (Deliver i) h = refl
+  moved-lost (Again i) h = refl
+  moved-lost (Lose i) h = one-more M (s .ledger .lost) (books (Lose i) h .lost-fits) (lose-own run s i h .2)
+
+  -- a count that rises where an accepted step is of its kind
+  counted : (step : Step) (kind : Bool) (count : State → ℕ) → (refusalOf run s step ≡ 0 → count (moved run s step) ≡ cond kind (suc (count s)) (count s))
+      → count (after run s step) ≡ cond (isAccepted run s step && kind) (suc (count s)) (count s)
+  unfolding after
+  counted step kind count move = go (refusalOf run s step) refl
+    where
+      go : (r : ℕ) → refusalOf run s step ≡ r → count (stateBy r s (moved run s step)) ≡ cond (eqb r 0 && kind) (suc (count s)) (count s)
+      go zero e = move e
+      go (suc r) e = rw (ne-eqb (suc r) 0 (omega arith))
+
+  pub sent-count : (step : Step) → after run s step .ledger .sent ≡ cond (isAccepted run s step && isSend step) (suc (s .ledger .sent)) (s .ledger .sent)
+  sent-count step = counted step (isSend step) (λ u. u .ledger .sent) (moved-sent step)
+
+  pub copied-count : (step : Step) → after run s step .ledger .copied ≡ cond (isAccepted run s step && isAgain step) (suc (s .ledger .copied)) (s .ledger .copied)
+  copied-count step = counted step (isAgain step) (λ u. u .ledger .copied) (moved-copied step)
+
+  pub absorbed-count : (step : Step) → after run s step .ledger .absorbed ≡ cond (isAccepted run s step && isDeliver step) (suc (s .ledger .absorbed)) (s .ledger .absorbed)
+  absorbed-count step = counted step (isDeliver step) (λ u. u .ledger .absorbed) (moved-absorbed step)
+
+  pub lost-count : (step : Step) → after run s step .ledger .lost ≡ cond (isAccepted run s step && isLose step) (suc (s .ledger .lost)) (s .ledger .lost)
+  lost-count step = counted step (isLose step) (λ u. u .ledger .lost) (moved-lost step)
