@@ -1,14 +1,14 @@
 -- The laws of the ledger: what a sound one is, and that one counter raised with the number that wait keeps it sound.
 -- Assumes nothing.
-use Prim.Native.Nat.{ℕ, zero, suc, _+_, _≤_, _<_}
+use Prim.Native.Nat.{ℕ, suc, _+_, _≤_}
 use native.Mathlib.Omega.{arith}
-use mathlib.Core.Bool.{Bool, true, false, _&&_, cond}
-use mathlib.Core.Path.{_≡_, refl, sym, ap, _∙_}
-use lib.Dec.{leb, ltb, eqb}
+use mathlib.Core.Bool.{true, false}
+use mathlib.Core.Path.{_≡_, refl}
+use lib.Dec.{leb, eqb}
 use borrow.Author.Tests.{leb-true, eqb-true, eqb-false, le-leb, lt-ltb, eq-eqb}
 use Rattle.rules.specs.declared.Ledger.{Ledger}
 use Rattle.rules.specs.View.{parts}
-use Rattle.rules.specs.Ledgers.{ledgerSound, raisedLedger, emptyLedger, oneMore, raisedIf, noCounter, sentCounter, copiedCounter, absorbedCounter, lostCounter}
+use Rattle.rules.specs.Ledgers.{ledgerSound, raisedLedger, oneMore, raisedIf, noCounter, sentCounter, copiedCounter, absorbedCounter, lostCounter}
 
 -- what a sound ledger says: each counter is at most the largest, and the parcels balance
 pub record Balanced (most waiting : ℕ) (l : Ledger) : Type 0 where

@@ -18,3 +18,4 @@ pub mod Sites
 pub mod SlotLaws
 pub mod LedgerLaws
 pub mod RunLaws
+pub mod SoundRuns

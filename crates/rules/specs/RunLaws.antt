@@ -1,31 +1,28 @@
 -- The laws of a run: a refused step changes nothing; the sizes stay; a sound state stays sound, so that no run meets refusals 1 and 2; and an
 -- accepted step changes only the table, the slot and the counter that are its own.
 -- Assumes nothing.
-use Prim.Native.Nat.{ℕ, zero, suc, _+_, _*_, _≤_, _<_}
+use Prim.Native.Nat.{ℕ, zero, suc, _≤_, _<_}
 use native.Mathlib.Nat.{suc-ne-zero}
 use native.Mathlib.Omega.{arith}
 use mathlib.Core.Bool.{Bool, true, false, _&&_, _||_, not, cond, false≢true}
-use mathlib.Core.Path.{_≡_, refl, sym, ap, _∙_}
+use mathlib.Core.Path.{_≡_, refl, sym, _∙_}
 use mathlib.Core.List.{List, [], _∷_}
-use lib.ListN.{length, getD, set, replicate, length-set, length-replicate}
+use lib.ListN.{length, getD}
 use lib.Seq.{getD-set-other}
-use lib.Dec.{leb, ltb, eqb}
-use borrow.Author.Tests.{leb-false, eqb-true, eqb-false, ne-eqb, not-false}
-use Rattle.rules.specs.declared.Answer.{Answer}
+use lib.Dec.{leb, eqb}
+use borrow.Author.Tests.{leb-false, eqb-false, ne-eqb, not-false}
 use Rattle.rules.specs.declared.Run.{Run}
 use Rattle.rules.specs.declared.Parcel.{Parcel}
-use Rattle.rules.specs.declared.Ledger.{Ledger}
 use Rattle.rules.specs.declared.Sight.{Sight}
 use Rattle.rules.specs.declared.Step.{Step}
 use Rattle.rules.specs.declared.Step.the-variants.{Add, Remove, Query, Send, Merge, Deliver, Again, Lose}
 use Rattle.rules.specs.Lengths.{M}
-use Rattle.rules.specs.Table.{sound, unused, soundFrom, lengthOf}
+use Rattle.rules.specs.Table.{lengthOf}
 use Rattle.rules.specs.View.{parts}
-use Rattle.rules.specs.Parcels.{noParcel, isFree, isOccupied, slotsSound, waiting, lowestFree, cleared}
-use Rattle.rules.specs.Ledgers.{ledgerSound, raisedLedger, emptyLedger, raisedIf}
-use Rattle.rules.specs.LedgerLaws.{Balanced, balanced, balanced-sound, one-more, raised-none, sent-sound, copied-sound, absorbed-sound, lost-sound}
-use Rattle.rules.specs.SlotLaws.{occupied-by, occupied-has, occupied-not-free, set-slots-sound, waiting-taken, waiting-freed, lowest-free, cleared-sound, cleared-length, cleared-waiting}
-use Rattle.rules.specs.Runs.{State, width, tableAt, withTable, sizesRight, tablesSound, allSound, slotOf, sightOf, Test, _when_, firstGiven, stepTests, refusalIn, wordsIn, placeIn, parcelIn, counterOf, refusalOf, answerOf, moved, stateBy, after, freshRefusal, empty, afterFresh}
+use Rattle.rules.specs.Parcels.{noParcel, isOccupied, slotsSound, waiting, lowestFree}
+use Rattle.rules.specs.Ledgers.{ledgerSound, raisedIf}
+use Rattle.rules.specs.LedgerLaws.{Balanced, balanced, one-more}
+use Rattle.rules.specs.Runs.{State, width, tableAt, sizesRight, tablesSound, allSound, slotOf, sightOf, Test, _when_, firstGiven, stepTests, refusalIn, placeIn, parcelIn, counterOf, refusalOf, answerOf, moved, stateBy, after}
 
 -- ---- a refused step
 module _ (run : Run) (s : State) (step : Step) where
@@ -125,9 +122,10 @@ own-numbers k p q run ws si (Lose i) = not-given k 5 _ _ (omega arith) (not-give
 
 -- no step in a sound state is refused with 1 or with 2
 pub never-unsound : (run : Run) (s : State) (step : Step) → StateSound run s → (refusalOf run s step ≡ 1 → ⊥) × (refusalOf run s step ≡ 2 → ⊥)
-never-unsound run s step h =
-    (λ e. own-numbers 1 (omega arith) (omega arith) run (s .words) (sightOf run s step) step (sym (sound-judged run s step h) ∙ e),
-     λ e. own-numbers 2 (omega arith) (omega arith) run (s .words) (sightOf run s step) step (sym (sound-judged run s step h) ∙ e))
+never-unsound run s step h = (
+  λ e. own-numbers 1 (omega arith) (omega arith) run (s .words) (sightOf run s step) step (sym (sound-judged run s step h) ∙ e),
+  λ e. own-numbers 2 (omega arith) (omega arith) run (s .words) (sightOf run s step) step (sym (sound-judged run s step h) ∙ e),
+)
 
 -- ---- what an accepted step's own tests say
 module _ (run : Run) (s : State) where
