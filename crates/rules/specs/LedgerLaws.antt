@@ -18,6 +18,7 @@ pub record Balanced (most waiting : ℕ) (l : Ledger) : Type 0 where
   pub lost-fits : l .lost ≤ most
   pub sums : l .sent + l .copied ≡ l .absorbed + l .lost + waiting
 
+-- a ledger that the test calls sound balances
 pub balanced : (most waiting : ℕ) (l : Ledger) → ledgerSound most waiting l ≡ true → Balanced most waiting l
 unfolding ledgerSound
 balanced most waiting l h =
@@ -33,6 +34,7 @@ balanced most waiting l h =
       sums = eqb-true _ _ (d .1);
     }
 
+-- and one that balances is called sound
 pub balanced-sound : (most waiting : ℕ) (l : Ledger) → Balanced most waiting l → ledgerSound most waiting l ≡ true
 unfolding ledgerSound
 balanced-sound most waiting l b =

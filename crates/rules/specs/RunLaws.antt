@@ -129,17 +129,21 @@ never-unsound run s step h = (
 
 -- ---- what an accepted step's own tests say
 module _ (run : Run) (s : State) where
+  -- an accepted add: the site is of the run
   pub add-own : (k e : ℕ) → refusalOf run s (Add k e) ≡ 0 → k < run .sites
   add-own k e h = leb-false _ _ (pass 2 _ _ (accepted-own run s (Add k e) h) .0)
 
+  -- an accepted remove: likewise
   pub remove-own : (k e : ℕ) → refusalOf run s (Remove k e) ≡ 0 → k < run .sites
   remove-own k e h = leb-false _ _ (pass 2 _ _ (accepted-own run s (Remove k e) h) .0)
 
+  -- an accepted merge: both sites are of the run
   pub merge-own : (f t : ℕ) → refusalOf run s (Merge f t) ≡ 0 → (f < run .sites) × (t < run .sites)
   merge-own f t h =
       let a = neither _ _ (pass 2 _ _ (accepted-own run s (Merge f t) h) .0) in
       (leb-false _ _ (a .0), leb-false _ _ (a .1))
 
+  -- an accepted send: both sites are of the run, the sender holds the id, a slot is free, and the sent count is not at the largest
   pub send-own : (f t e : ℕ) → refusalOf run s (Send f t e) ≡ 0
       → (f < run .sites) × (t < run .sites) × (1 ≤ lengthOf (tableAt run (s .words) f) e) × (lowestFree (s .slots) < length (s .slots)) × (eqb (s .ledger .sent) M ≡ false)
   send-own f t e h =
@@ -158,6 +162,7 @@ module _ (run : Run) (s : State) where
       let a = neither _ _ h in
       (leb-false _ _ (a .0), not-false _ (a .1))
 
+  -- an accepted delivery: the slot is occupied, and the absorbed count is not at the largest
   pub deliver-own : (i : ℕ) → refusalOf run s (Deliver i) ≡ 0
       → (i < length (s .slots)) × (isOccupied M (run .sites) (getD (s .slots) i noParcel) ≡ true) × (eqb (s .ledger .absorbed) M ≡ false)
   unfolding slotOf
@@ -168,6 +173,7 @@ module _ (run : Run) (s : State) where
       let d = there i (getD (s .slots) i noParcel) (a .0) in
       (d .0, d .1, c .0)
 
+  -- an accepted copy: the slot is occupied, another is free, and the copied count is not at the largest
   pub again-own : (i : ℕ) → refusalOf run s (Again i) ≡ 0
       → (i < length (s .slots)) × (isOccupied M (run .sites) (getD (s .slots) i noParcel) ≡ true) × (lowestFree (s .slots) < length (s .slots)) × (eqb (s .ledger .copied) M ≡ false)
   unfolding slotOf
@@ -178,6 +184,7 @@ module _ (run : Run) (s : State) where
       let d = there i (getD (s .slots) i noParcel) (a .0) in
       (d .0, d .1, leb-false _ _ (b .0), c .0)
 
+  -- an accepted loss: the slot is occupied, and the lost count is not at the largest
   pub lose-own : (i : ℕ) → refusalOf run s (Lose i) ≡ 0
       → (i < length (s .slots)) × (isOccupied M (run .sites) (getD (s .slots) i noParcel) ≡ true) × (eqb (s .ledger .lost) M ≡ false)
   unfolding slotOf
@@ -290,14 +297,18 @@ module _ (run : Run) (s : State) where
       go zero e = move e
       go (suc r) e = rw (ne-eqb (suc r) 0 (omega arith))
 
+  -- sent is one more exactly for an accepted send
   pub sent-count : (step : Step) → after run s step .ledger .sent ≡ cond (isAccepted run s step && isSend step) (suc (s .ledger .sent)) (s .ledger .sent)
   sent-count step = counted step (isSend step) (λ u. u .ledger .sent) (moved-sent step)
 
+  -- copied is one more exactly for an accepted copy
   pub copied-count : (step : Step) → after run s step .ledger .copied ≡ cond (isAccepted run s step && isAgain step) (suc (s .ledger .copied)) (s .ledger .copied)
   copied-count step = counted step (isAgain step) (λ u. u .ledger .copied) (moved-copied step)
 
+  -- absorbed is one more exactly for an accepted delivery
   pub absorbed-count : (step : Step) → after run s step .ledger .absorbed ≡ cond (isAccepted run s step && isDeliver step) (suc (s .ledger .absorbed)) (s .ledger .absorbed)
   absorbed-count step = counted step (isDeliver step) (λ u. u .ledger .absorbed) (moved-absorbed step)
 
+  -- lost is one more exactly for an accepted loss
   pub lost-count : (step : Step) → after run s step .ledger .lost ≡ cond (isAccepted run s step && isLose step) (suc (s .ledger .lost)) (s .ledger .lost)
   lost-count step = counted step (isLose step) (λ u. u .ledger .lost) (moved-lost step)

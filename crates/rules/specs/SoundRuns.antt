@@ -239,13 +239,16 @@ module _ (run : Run) (s : State) where
 
   module _ (step : Step) where
     -- ---- the sizes stay, at every step in every state
+    -- as many words as before
     pub words-stay-long : length (after run s step .words) ≡ length (s .words)
     words-stay-long = after-keeps run s step (λ u. length (u .words) ≡ length (s .words)) refl (λ a. kept-words step a .as-many)
 
+    -- as many slots as before
     pub slots-stay-long : length (after run s step .slots) ≡ length (s .slots)
     slots-stay-long = after-keeps run s step (λ u. length (u .slots) ≡ length (s .slots)) refl
         (λ a. length-set (s .slots) (placeIn (sightOf run s step) step) (parcelIn run (s .words) (sightOf run s step) step))
 
+    -- both
     pub sized-stays : (length (after run s step .words) ≡ length (s .words)) × (length (after run s step .slots) ≡ length (s .slots))
     sized-stays = (words-stay-long, slots-stay-long)
 
@@ -257,26 +260,32 @@ module _ (run : Run) (s : State) where
         let slots = kept-slots step a in
         (rw (kept .as-many, length-set (s .slots) (placeIn (sightOf run s step) step) (parcelIn run (s .words) (sightOf run s step) step)) (so .0), kept .all-sound, slots .0, slots .1)
 
+    -- whatever the step, a sound state is followed by a sound one
     pub after-sound : StateSound run s → StateSound run (after run s step)
     after-sound h = after-keeps run s step (StateSound run) h moved-sound
 
     -- ---- a step changes no table but its own
+    -- the table of every other site is as it was, in every state
     pub others-stay : (j : ℕ) → (j ≡ siteIn run (sightOf run s step) step → ⊥) → tableAt run (after run s step .words) j ≡ tableAt run (s .words) j
     others-stay j ne = after-keeps run s step (λ u. tableAt run (u .words) j ≡ tableAt run (s .words) j) refl (λ a. kept-words step a .others j ne)
 
   -- ---- a query and the three steps on parcels that deliver nothing leave the words as they are
+  -- a query leaves the words
   pub query-words : (k e : ℕ) → after run s (Query k e) .words ≡ s .words
   unfolding wordsIn
   query-words k e = after-keeps run s (Query k e) (λ u. u .words ≡ s .words) refl (λ a. refl)
 
+  -- a send leaves the words
   pub send-words : (f t e : ℕ) → after run s (Send f t e) .words ≡ s .words
   unfolding wordsIn
   send-words f t e = after-keeps run s (Send f t e) (λ u. u .words ≡ s .words) refl (λ a. refl)
 
+  -- a copy leaves the words
   pub again-words : (i : ℕ) → after run s (Again i) .words ≡ s .words
   unfolding wordsIn
   again-words i = after-keeps run s (Again i) (λ u. u .words ≡ s .words) refl (λ a. refl)
 
+  -- a loss leaves the words
   pub lose-words : (i : ℕ) → after run s (Lose i) .words ≡ s .words
   unfolding wordsIn
   lose-words i = after-keeps run s (Lose i) (λ u. u .words ≡ s .words) refl (λ a. refl)
