@@ -5,7 +5,10 @@ use rules::Parcel;
 use rules::Run;
 use rules::Step;
 ghost use mathlib.Core.Path.{_≡_};
-ghost use Rattle.rules.specs.Runs.{Stepped};
+ghost use lib.ListN.{replicate};
+ghost use Rattle.rules.specs.Ledgers.{emptyLedger};
+ghost use Rattle.rules.specs.Parcels.{noParcel};
+ghost use Rattle.rules.specs.Runs.{lent, Stepped};
 ghost use Rattle.kept.specs.Kept.{keptState};
 
 pub struct Kept {
@@ -18,6 +21,30 @@ pub struct Kept {
 pub struct Moved {
     pub kept: Kept,
     pub answer: Answer,
+}
+
+// A run to begin with: no id at any site, every slot free, no count.
+pub fn fresh_kept() -> Kept
+    ensures { λ r. ⌜ keptState r ≡ lent (replicate 48 0) (replicate 8 noParcel) emptyLedger ⌝ }
+{
+    let words = [0u64; 48];
+    let none = Parcel {
+        site: 0,
+        id: 0,
+        length: 0,
+    };
+    let slots = [none; 8];
+    let ledger = Ledger {
+        sent: 0,
+        copied: 0,
+        absorbed: 0,
+        lost: 0,
+    };
+    Kept {
+        words: words,
+        slots: slots,
+        ledger: ledger,
+    }
 }
 
 // The state is laid out in locals and lent to the step, and taken up again.

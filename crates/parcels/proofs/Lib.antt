@@ -1,4 +1,2 @@
 pub mod Calls
 pub mod Slot
-pub mod Lent
-pub mod OnSlots

@@ -1,0 +1,108 @@
+// Runs and states made by value.
+use kept::Kept;
+use rules::Ledger;
+use rules::M;
+use rules::Parcel;
+use rules::Run;
+ghost use Prim.Native.Nat.{_<_};
+
+// 48 words are 3 tables of 8 entries, 12 of 2, 8 of 3, or 1 of 24.
+pub(crate) fn three_sites() -> Run {
+    Run {
+        sites: 3,
+        capacity: 8,
+    }
+}
+
+pub(crate) fn twelve_sites() -> Run {
+    Run {
+        sites: 12,
+        capacity: 2,
+    }
+}
+
+pub(crate) fn eight_sites() -> Run {
+    Run {
+        sites: 8,
+        capacity: 3,
+    }
+}
+
+pub(crate) fn one_site() -> Run {
+    Run {
+        sites: 1,
+        capacity: 24,
+    }
+}
+
+pub(crate) fn parcel_to(site: u64, id: u64, length: u64) -> Parcel {
+    Parcel {
+        site: site,
+        id: id,
+        length: length,
+    }
+}
+
+// Places are counted over all tables: with capacity C, site k's first is k × C.
+pub(crate) fn with_entry(state: Kept, place: usize, id: u64, length: u64) -> Kept
+    requires { ⌜ place < 24 ⌝ }
+{
+    let mut words = state.words;
+    words[2 * place] = id;
+    words[2 * place + 1] = length;
+    let slots = state.slots;
+    let ledger = state.ledger;
+    Kept {
+        words: words,
+        slots: slots,
+        ledger: ledger,
+    }
+}
+
+pub(crate) fn with_parcel(state: Kept, slot: usize, parcel: Parcel) -> Kept
+    requires { ⌜ slot < 8 ⌝ }
+{
+    let words = state.words;
+    let mut slots = state.slots;
+    slots[slot] = parcel;
+    let ledger = state.ledger;
+    Kept {
+        words: words,
+        slots: slots,
+        ledger: ledger,
+    }
+}
+
+pub(crate) fn with_ledger(state: Kept, sent: u64, copied: u64, absorbed: u64, lost: u64) -> Kept {
+    let words = state.words;
+    let slots = state.slots;
+    let ledger = Ledger {
+        sent: sent,
+        copied: copied,
+        absorbed: absorbed,
+        lost: lost,
+    };
+    Kept {
+        words: words,
+        slots: slots,
+        ledger: ledger,
+    }
+}
+
+// Every slot is occupied and sent, copied and absorbed are at M, so that 9 and 10 hold wherever they are asked for.
+pub(crate) fn all_waiting() -> Kept {
+    let words = [0u64; 48];
+    let parcel = parcel_to(2, 7, 1);
+    let slots = [parcel; 8];
+    let ledger = Ledger {
+        sent: M,
+        copied: M,
+        absorbed: M,
+        lost: M - 8,
+    };
+    Kept {
+        words: words,
+        slots: slots,
+        ledger: ledger,
+    }
+}

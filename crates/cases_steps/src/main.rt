@@ -1,0 +1,24 @@
+// Small runs, kept by value, take steps and say what became of each: the sample run, every refusal and their order, damaged states, counters at M.
+mod counters;
+mod damages;
+mod made;
+mod outcomes;
+mod print;
+mod refusals;
+mod sample;
+mod show;
+mod steps;
+
+use crate::counters::counters_at_most;
+use crate::damages::damages;
+use crate::outcomes::outcomes;
+use crate::refusals::refusals;
+use crate::sample::sample;
+
+fn main() {
+    sample();
+    refusals();
+    outcomes();
+    damages();
+    counters_at_most();
+}
