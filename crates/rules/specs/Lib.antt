@@ -14,6 +14,7 @@ pub mod Cases
 pub mod Parcels
 pub mod Ledgers
 pub mod Runs
+pub mod Histories
 pub mod Sites
 pub mod SlotLaws
 pub mod LedgerLaws

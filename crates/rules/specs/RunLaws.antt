@@ -23,6 +23,7 @@ use Rattle.rules.specs.Parcels.{noParcel, isOccupied, slotsSound, waitin
 use Rattle.rules.specs.Ledgers.{ledgerSound, raisedIf}
 use Rattle.rules.specs.LedgerLaws.{Balanced, balanced, one-more}
 use Rattle.rules.specs.Runs.{State, width, tableAt, sizesRight, tablesSound, allSound, slotOf, sightOf, Test, _when_, firstGiven, stepTests, refusalIn, placeIn, parcelIn, counterOf, refusalOf, answerOf, moved, stateBy, after}
+use Rattle.rules.specs.Histories.{isSend, isAgain, isDeliver, isLose, isAccepted}
 
 -- ---- a refused step
 module _ (run : Run) (s : State) (step : Step) where
@@ -195,50 +196,6 @@ module _ (run : Run) (s : State) where
       (d .0, d .1, b .0)
 
 -- ---- the counters: each is one more exactly for an accepted step of its own kind
-unfoldable pub isSend : Step → Bool
-isSend (Add k e) = false
-isSend (Remove k e) = false
-isSend (Query k e) = false
-isSend (Send f t e) = true
-isSend (Merge f t) = false
-isSend (Deliver i) = false
-isSend (Again i) = false
-isSend (Lose i) = false
-
-unfoldable pub isAgain : Step → Bool
-isAgain (Add k e) = false
-isAgain (Remove k e) = false
-isAgain (Query k e) = false
-isAgain (Send f t e) = false
-isAgain (Merge f t) = false
-isAgain (Deliver i) = false
-isAgain (Again i) = true
-isAgain (Lose i) = false
-
-unfoldable pub isDeliver : Step → Bool
-isDeliver (Add k e) = false
-isDeliver (Remove k e) = false
-isDeliver (Query k e) = false
-isDeliver (Send f t e) = false
-isDeliver (Merge f t) = false
-isDeliver (Deliver i) = true
-isDeliver (Again i) = false
-isDeliver (Lose i) = false
-
-unfoldable pub isLose : Step → Bool
-isLose (Add k e) = false
-isLose (Remove k e) = false
-isLose (Query k e) = false
-isLose (Send f t e) = false
-isLose (Merge f t) = false
-isLose (Deliver i) = false
-isLose (Again i) = false
-isLose (Lose i) = true
-
--- the step is not refused
-abbrev pub isAccepted : Run → State → Step → Bool
-isAccepted run s step = eqb (refusalOf run s step) 0
-
 module _ (run : Run) (s : State) where
   books : (step : Step) → refusalOf run s step ≡ 0 → Balanced M (waiting (s .slots)) (s .ledger)
   books step h = balanced M (waiting (s .slots)) (s .ledger) (accepted-sound run s step h .3)

@@ -25,6 +25,7 @@ use Rattle.rules.specs.OperationLaws.{add-sound, absorb-sound, raise-len
 use Rattle.rules.specs.Parcels.{noParcel, isFree, isOccupied, slotsSound, waiting, lowestFree}
 use Rattle.rules.specs.Ledgers.{ledgerSound, raisedLedger, emptyLedger, sentCounter, copiedCounter, absorbedCounter, lostCounter, raisedIf}
 use Rattle.rules.specs.Runs.{State, width, tableAt, withTable, sizesRight, tablesSound, slotOf, sightOf, wordsIn, placeIn, parcelIn, counterOf, refusalOf, moved, after, freshRefusal, empty, afterFresh}
+use Rattle.rules.specs.Histories.{siteIn}
 use Rattle.rules.specs.Sites.{part-fits, tables-at, with-length, with-other, with-sound}
 use Rattle.rules.specs.SlotLaws.{occupied-by, occupied-has, occupied-not-free, set-slots-sound, waiting-taken, waiting-freed, lowest-free, cleared-sound, cleared-length, cleared-waiting}
 use Rattle.rules.specs.LedgerLaws.{balanced-sound, sent-sound, copied-sound, absorbed-sound, lost-sound}
@@ -95,17 +96,6 @@ unfolding afterFresh
 fresh-sound run s h = rw h (empty-state-sound run s (fresh-sizes run s h))
 
 -- ---- the words after an accepted step
--- the site whose table a step may change; past the last one for a step that changes none
-unfoldable pub siteIn : Run → Sight → Step → ℕ
-siteIn run si (Add k e) = k
-siteIn run si (Remove k e) = k
-siteIn run si (Query k e) = run .sites
-siteIn run si (Send f t e) = run .sites
-siteIn run si (Merge f t) = t
-siteIn run si (Deliver i) = si .named .site
-siteIn run si (Again i) = run .sites
-siteIn run si (Lose i) = run .sites
-
 -- the words are as many, every table of them is sound, and the tables of the other sites are as they were
 pub record Kept (run : Run) (ws : List ℕ) (k : ℕ) (vs : List ℕ) : Type 0 where
   pub as-many : length vs ≡ length ws
