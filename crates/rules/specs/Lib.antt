@@ -20,3 +20,15 @@ pub mod SlotLaws
 pub mod LedgerLaws
 pub mod RunLaws
 pub mod SoundRuns
+pub mod Text
+pub mod Number
+pub mod NumberLaws
+pub mod Lines
+pub mod LineLaws
+pub mod LinePlaces
+pub mod StepLines
+pub mod Put
+pub mod Writing
+pub mod Area
+pub mod LineCases
+pub mod Members

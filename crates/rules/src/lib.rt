@@ -66,3 +66,21 @@ pub enum Step {
     Again { slot: u64 },
     Lose { slot: u64 },
 }
+
+// A piece of a step line: its number, 0 for a piece of fixed text, and the place behind it; or that it does not stand there.
+pub enum Piece {
+    Read(u64, usize),
+    Refused,
+}
+
+// What a text says: the four numbers of a step (kind, first site or slot, second site, id; unused ones 0), or that it is not a step line.
+pub enum Line {
+    Numbers(u64, u64, u64, u64),
+    NoLine,
+}
+
+// What four numbers or a text name: a step, or none.
+pub enum Named {
+    Is(Step),
+    NoStep,
+}

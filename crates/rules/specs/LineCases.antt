@@ -1,0 +1,103 @@
+-- Worked cases, as one table under one statement, and the lines as the document lists them. Assumes nothing.
+use mathlib.Core.Path.{_≡_, refl}
+use mathlib.Core.Bool.{Bool, true, false, _&&_}
+use mathlib.Core.List.{List, [], _∷_, _++_, append-nil}
+use Prim.Native.Nat.{ℕ}
+use Prim.Native.String.{String}
+use lib.Dec.{eqb}
+use Rattle.rules.specs.Text.{ascii, Front, front, refused, behind}
+use Rattle.rules.specs.Number.{upTo, digits, digitOf, digitRun, fair, judged, readNumber}
+use Rattle.rules.specs.Lines.{leads, lead, toName, idName, hasSecond, hasId, field, textOf, namesStep, firstOf, kindOf, readField, andThen, ended, numbersOf}
+use Rattle.rules.specs.declared.Line.{Line}
+use Rattle.rules.specs.declared.Line.the-variants.{Numbers, NoLine}
+
+same : List ℕ → List ℕ → Bool
+same [] [] = true
+same [] (y ∷ ys) = false
+same (x ∷ xs) [] = false
+same (x ∷ xs) (y ∷ ys) = eqb x y && same xs ys
+
+gives : Line → ℕ → ℕ → ℕ → ℕ → Bool
+gives (Numbers k a b i) k′ a′ b′ i′ = eqb k k′ && eqb a a′ && eqb b b′ && eqb i i′
+gives NoLine k′ a′ b′ i′ = false
+
+-- the text is the line of the four numbers, both ways
+both : String → ℕ → ℕ → ℕ → ℕ → Bool
+both s k a b i = same (textOf k a b i) (ascii s) && gives (numbersOf (ascii s)) k a b i
+
+isRefused : Line → Bool
+isRefused (Numbers k a b i) = false
+isRefused NoLine = true
+
+no-line : String → Bool
+no-line s = isRefused (numbersOf (ascii s))
+
+pub all : List Bool → Bool
+all [] = true
+all (b ∷ bs) = b && all bs
+
+pub cases : List Bool
+cases =
+    both "step=add node=0 idName=7" 1 0 0 7
+    ∷ both "step=remove node=2 idName=7" 2 2 0 7
+    ∷ both "step=query node=1 idName=18446744073709551615" 3 1 0 18446744073709551615
+    ∷ both "step=send from=1 toName=2 idName=7" 4 1 2 7
+    ∷ both "step=send from=18446744073709551615 toName=18446744073709551615 idName=18446744073709551615" 4 18446744073709551615 18446744073709551615 18446744073709551615
+    ∷ both "step=merge from=1 toName=2" 5 1 2 0
+    ∷ both "step=deliver slot=0" 6 0 0 0
+    ∷ both "step=again slot=10" 7 10 0 0
+    ∷ both "step=lose slot=1023" 8 1023 0 0
+    ∷ no-line ""
+    ∷ no-line "step=add node=0 idName="
+    ∷ no-line "step=add node= idName=7"
+    ∷ no-line "step=add node=00 idName=7"
+    ∷ no-line "step=add node=0 idName=07"
+    ∷ no-line "step=add node=0 idName=18446744073709551616"
+    ∷ no-line "step=add node=0 idName=7 "
+    ∷ no-line " step=add node=0 idName=7"
+    ∷ no-line "step=add node=0  idName=7"
+    ∷ no-line "step=add node=0 idName=7\n"
+    ∷ no-line "step=add node=+1 idName=7"
+    ∷ no-line "step=add node=0 toName=1 idName=7"
+    ∷ no-line "step=merge from=1 toName=2 idName=0"
+    ∷ no-line "step=deliver slot=0 idName=0"
+    ∷ no-line "step=Add node=0 idName=7"
+    ∷ []
+
+pub worked : all cases ≡ true
+unfolding all cases both no-line isRefused same gives textOf field lead digits upTo numbersOf kindOf firstOf behind readField readNumber judged digitRun fair digitOf
+worked = refl
+
+-- the eight forms, as the document lists them
+module _ (n m i : ℕ) where
+  pub add-line : textOf 1 n 0 i ≡ ascii "step=add node=" ++ (digits n ++ (ascii " idName=" ++ digits i))
+  unfolding textOf field lead
+  add-line = refl
+
+  pub remove-line : textOf 2 n 0 i ≡ ascii "step=remove node=" ++ (digits n ++ (ascii " idName=" ++ digits i))
+  unfolding textOf field lead
+  remove-line = refl
+
+  pub query-line : textOf 3 n 0 i ≡ ascii "step=query node=" ++ (digits n ++ (ascii " idName=" ++ digits i))
+  unfolding textOf field lead
+  query-line = refl
+
+  pub send-line : textOf 4 n m i ≡ ascii "step=send from=" ++ (digits n ++ (ascii " toName=" ++ (digits m ++ (ascii " idName=" ++ digits i))))
+  unfolding textOf field lead
+  send-line = refl
+
+  pub merge-line : textOf 5 n m 0 ≡ ascii "step=merge from=" ++ (digits n ++ (ascii " toName=" ++ digits m))
+  unfolding textOf field lead
+  merge-line = simp append-nil
+
+  pub deliver-line : textOf 6 n 0 0 ≡ ascii "step=deliver slot=" ++ digits n
+  unfolding textOf field lead
+  deliver-line = simp append-nil
+
+  pub again-line : textOf 7 n 0 0 ≡ ascii "step=again slot=" ++ digits n
+  unfolding textOf field lead
+  again-line = simp append-nil
+
+  pub lose-line : textOf 8 n 0 0 ≡ ascii "step=lose slot=" ++ digits n
+  unfolding textOf field lead
+  lose-line = simp append-nil
