@@ -19,6 +19,8 @@ use Rattle.rules.specs.declared.Step.the-variants.{Add, Remove, Query, S
 use Rattle.rules.specs.Parcels.{noParcel, isFree, isOccupied, slotsSound, waiting, lowestFree, cleared}
 use Rattle.rules.specs.Ledgers.{ledgerSound, emptyLedger, oneMore, raisedIf}
 use Rattle.rules.specs.Runs.{State, lent, tableAt, withTable, sizesRight, tablesSound, allSound, slotOf, firstGiven, refusalIn, valueIn, wordsIn, placeIn, parcelIn, counterOf, refusalOf, valueOf, answerOf, after, freshRefusal, afterFresh}
+use Rattle.rules.specs.Put.{put}
+use Rattle.rules.specs.Members.{bitsOf, bytesOf, answersOf, membersRefusal, membersAfter}
 use Rattle.rules.specs.Operations.{queryAnswer, raiseRefusal, raiseAnswer, raiseTable, addAnswer, addTable, absorbAnswer, absorbTable, removedLength, removeRefusal, removeAnswer, removeTable, mergeRefusal, mergeAnswer, mergeTable}
 
 abbrev pub all : List Bool → Bool
@@ -135,6 +137,13 @@ cases =
     -- P11 the merge P7 into the first returns 1 with C = 3 and is refused with 8 at C = 2
     ∷ gives (mergeAnswer seven-nine seven-eight) 1
     ∷ refuses (mergeAnswer seven-nine-full seven-eight) 8 ∷ same (mergeTable seven-nine-full seven-eight) seven-nine-full
+    -- P12 asking 7, 8, 9 of P7's result gives the byte 6; 9 ids take two bytes, and later bytes are kept
+    ∷ eqb (membersRefusal seven-eight-nine 3 1) 0 ∷ same (membersAfter seven-eight-nine (7 ∷ 8 ∷ 9 ∷ []) (255 ∷ 255 ∷ [])) (6 ∷ 255 ∷ [])
+    ∷ same (membersAfter seven-eight-nine (8 ∷ 8 ∷ 7 ∷ 9 ∷ 0 ∷ 0 ∷ 0 ∷ 8 ∷ 9 ∷ []) (255 ∷ 255 ∷ 255 ∷ [])) (139 ∷ 1 ∷ 255 ∷ [])
+    -- membership's own order of refusals: 1, 2, 14, 13; no ids asked, nothing written
+    ∷ eqb (membersRefusal (0 ∷ 1 ∷ 1 ∷ []) 4097 0) 1 ∷ eqb (membersRefusal (seven 0) 4097 0) 2
+    ∷ eqb (membersRefusal (seven 1) 4097 0) 14 ∷ eqb (membersRefusal (seven 1) 4096 511) 13 ∷ eqb (membersRefusal (seven 1) 4096 512) 0
+    ∷ eqb (membersRefusal (seven 0) 0 0) 2 ∷ same (membersAfter (seven 1) [] (9 ∷ [])) (9 ∷ [])
     -- what is a sound table: no entry, room to spare, id 0, the length M
     ∷ sound M [] ∷ sound M empty ∷ sound M seven-nine ∷ sound M (0 ∷ 1 ∷ 1 ∷ 1 ∷ []) ∷ sound M (seven M)
     -- and what is none: M + 1, ids that fall, an id twice, an id without a length, an entry after an unused place, an odd word
@@ -173,5 +182,5 @@ cases =
     ∷ []
 
 pub cases-hold : all cases ≡ true
-unfolding cases listed afterAdd afterRemove unused soundFrom lengthOf held shown rank push withLength raised heldWith merged newIds rises raiseRefusal raiseAnswer raiseTable removedLength removeRefusal removeTable mergeRefusal mergeAnswer mergeTable isFree isOccupied slotsSound waiting lowestFree cleared ledgerSound oneMore raisedIf tableAt withTable sizesRight tablesSound allSound slotOf firstGiven refusalIn valueIn wordsIn placeIn parcelIn counterOf refusalOf valueOf after freshRefusal afterFresh
+unfolding cases listed afterAdd afterRemove unused soundFrom lengthOf held shown rank push withLength raised heldWith merged newIds rises raiseRefusal raiseAnswer raiseTable removedLength removeRefusal removeTable mergeRefusal mergeAnswer mergeTable isFree isOccupied slotsSound waiting lowestFree cleared ledgerSound oneMore raisedIf tableAt withTable sizesRight tablesSound allSound slotOf firstGiven refusalIn valueIn wordsIn placeIn parcelIn counterOf refusalOf valueOf after freshRefusal afterFresh put bitsOf bytesOf answersOf membersRefusal membersAfter
 cases-hold = refl

@@ -10,7 +10,6 @@ pub mod Places
 pub mod Insert
 pub mod Merge
 pub mod OperationLaws
-pub mod Cases
 pub mod Parcels
 pub mod Ledgers
 pub mod Runs
@@ -33,3 +32,4 @@ pub mod Writing
 pub mod Area
 pub mod LineCases
 pub mod Members
+pub mod Cases
