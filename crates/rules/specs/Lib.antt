@@ -33,3 +33,7 @@ pub mod Area
 pub mod LineCases
 pub mod Members
 pub mod Cases
+pub mod Pairs
+pub mod Counting
+pub mod Gains
+pub mod Absorbing
