@@ -200,49 +200,25 @@ module _ (run : Run) (s : State) where
   books : (step : Step) → refusalOf run s step ≡ 0 → Balanced M (waiting (s .slots)) (s .ledger)
   books step h = balanced M (waiting (s .slots)) (s .ledger) (accepted-sound run s step h .3)
 
-  moved-sent : (step : Step) → refusalOf run s step ≡ 0 → moved run s step .ledger .sent ≡ cond (isSend step) (suc (s .ledger .sent)) (s .ledger .sent)
-  unfolding raisedIf counterOf isSend
-  moved-sent (Add k e) h = refl
-  moved-sent (Remove k e) h = refl
-  moved-sent (Query k e) h = refl
-  moved-sent (Send f t e) h = one-more M (s .ledger .sent) (books (Send f t e) h .sent-fits) (send-own run s f t e h .4)
-  moved-sent (Merge f t) h = refl
-  moved-sent (Deliver i) h = refl
-  moved-sent (Again i) h = refl
-  moved-sent (Lose i) h = refl
+  -- one more where the step is of the counter's kind
+  abbrev Earned : Bool → ℕ → ℕ → Type 0
+  Earned kind before after = after ≡ cond kind (suc before) before
 
-  moved-copied : (step : Step) → refusalOf run s step ≡ 0 → moved run s step .ledger .copied ≡ cond (isAgain step) (suc (s .ledger .copied)) (s .ledger .copied)
-  unfolding raisedIf counterOf isAgain
-  moved-copied (Add k e) h = refl
-  moved-copied (Remove k e) h = refl
-  moved-copied (Query k e) h = refl
-  moved-copied (Send f t e) h = refl
-  moved-copied (Merge f t) h = refl
-  moved-copied (Deliver i) h = refl
-  moved-copied (Again i) h = one-more M (s .ledger .copied) (books (Again i) h .copied-fits) (again-own run s i h .3)
-  moved-copied (Lose i) h = refl
-
-  moved-absorbed : (step : Step) → refusalOf run s step ≡ 0 → moved run s step .ledger .absorbed ≡ cond (isDeliver step) (suc (s .ledger .absorbed)) (s .ledger .absorbed)
-  unfolding raisedIf counterOf isDeliver
-  moved-absorbed (Add k e) h = refl
-  moved-absorbed (Remove k e) h = refl
-  moved-absorbed (Query k e) h = refl
-  moved-absorbed (Send f t e) h = refl
-  moved-absorbed (Merge f t) h = refl
-  moved-absorbed (Deliver i) h = one-more M (s .ledger .absorbed) (books (Deliver i) h .absorbed-fits) (deliver-own run s i h .2)
-  moved-absorbed (Again i) h = refl
-  moved-absorbed (Lose i) h = refl
-
-  moved-lost : (step : Step) → refusalOf run s step ≡ 0 → moved run s step .ledger .lost ≡ cond (isLose step) (suc (s .ledger .lost)) (s .ledger .lost)
-  unfolding raisedIf counterOf isLose
-  moved-lost (Add k e) h = refl
-  moved-lost (Remove k e) h = refl
-  moved-lost (Query k e) h = refl
-  moved-lost (Send f t e) h = refl
-  moved-lost (Merge f t) h = refl
-  moved-lost (Deliver i) h = refl
-  moved-lost (Again i) h = refl
-  moved-lost (Lose i) h = one-more M (s .ledger .lost) (books (Lose i) h .lost-fits) (lose-own run s i h .2)
+  -- all four counters after an accepted step: sent, copied, absorbed, lost
+  moved-counts : (step : Step) → refusalOf run s step ≡ 0
+      → Earned (isSend step) (s .ledger .sent) (moved run s step .ledger .sent)
+      × Earned (isAgain step) (s .ledger .copied) (moved run s step .ledger .copied)
+      × Earned (isDeliver step) (s .ledger .absorbed) (moved run s step .ledger .absorbed)
+      × Earned (isLose step) (s .ledger .lost) (moved run s step .ledger .lost)
+  unfolding raisedIf counterOf isSend isAgain isDeliver isLose
+  moved-counts (Add k e) h = (refl, refl, refl, refl)
+  moved-counts (Remove k e) h = (refl, refl, refl, refl)
+  moved-counts (Query k e) h = (refl, refl, refl, refl)
+  moved-counts (Send f t e) h = (one-more M (s .ledger .sent) (books (Send f t e) h .sent-fits) (send-own run s f t e h .4), refl, refl, refl)
+  moved-counts (Merge f t) h = (refl, refl, refl, refl)
+  moved-counts (Deliver i) h = (refl, refl, one-more M (s .ledger .absorbed) (books (Deliver i) h .absorbed-fits) (deliver-own run s i h .2), refl)
+  moved-counts (Again i) h = (refl, one-more M (s .ledger .copied) (books (Again i) h .copied-fits) (again-own run s i h .3), refl, refl)
+  moved-counts (Lose i) h = (refl, refl, refl, one-more M (s .ledger .lost) (books (Lose i) h .lost-fits) (lose-own run s i h .2))
 
   -- a count that rises where an accepted step is of its kind
   counted : (step : Step) (kind : Bool) (count : State → ℕ) → (refusalOf run s step ≡ 0 → count (moved run s step) ≡ cond kind (suc (count s)) (count s))
@@ -256,16 +232,16 @@ module _ (run : Run) (s : State) where
 
   -- sent is one more exactly for an accepted send
   pub sent-count : (step : Step) → after run s step .ledger .sent ≡ cond (isAccepted run s step && isSend step) (suc (s .ledger .sent)) (s .ledger .sent)
-  sent-count step = counted step (isSend step) (λ u. u .ledger .sent) (moved-sent step)
+  sent-count step = counted step (isSend step) (λ u. u .ledger .sent) (λ h. moved-counts step h .0)
 
   -- copied is one more exactly for an accepted copy
   pub copied-count : (step : Step) → after run s step .ledger .copied ≡ cond (isAccepted run s step && isAgain step) (suc (s .ledger .copied)) (s .ledger .copied)
-  copied-count step = counted step (isAgain step) (λ u. u .ledger .copied) (moved-copied step)
+  copied-count step = counted step (isAgain step) (λ u. u .ledger .copied) (λ h. moved-counts step h .1)
 
   -- absorbed is one more exactly for an accepted delivery
   pub absorbed-count : (step : Step) → after run s step .ledger .absorbed ≡ cond (isAccepted run s step && isDeliver step) (suc (s .ledger .absorbed)) (s .ledger .absorbed)
-  absorbed-count step = counted step (isDeliver step) (λ u. u .ledger .absorbed) (moved-absorbed step)
+  absorbed-count step = counted step (isDeliver step) (λ u. u .ledger .absorbed) (λ h. moved-counts step h .2)
 
   -- lost is one more exactly for an accepted loss
   pub lost-count : (step : Step) → after run s step .ledger .lost ≡ cond (isAccepted run s step && isLose step) (suc (s .ledger .lost)) (s .ledger .lost)
-  lost-count step = counted step (isLose step) (λ u. u .ledger .lost) (moved-lost step)
+  lost-count step = counted step (isLose step) (λ u. u .ledger .lost) (λ h. moved-counts step h .3)
