@@ -37,3 +37,4 @@ pub mod Pairs
 pub mod Counting
 pub mod Gains
 pub mod Absorbing
+pub mod Reports

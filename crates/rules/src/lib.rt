@@ -84,3 +84,9 @@ pub enum Named {
     Is(Step),
     NoStep,
 }
+
+// What the report answers: 0 or the number of its refusal, and how many bytes it wrote, 0 on a refusal.
+pub struct Reported {
+    pub refusal: u32,
+    pub written: usize,
+}
