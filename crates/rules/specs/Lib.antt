@@ -38,3 +38,6 @@ pub mod Counting
 pub mod Gains
 pub mod Absorbing
 pub mod Reports
+pub mod Figure4
+pub mod Rising
+pub mod Determined
