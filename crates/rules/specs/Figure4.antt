@@ -1,7 +1,7 @@
 -- "Adding, removing, merging and membership give exactly what the 2020 paper defines": for every accepted step, the length that each site
 -- has for each id afterwards is the right-hand side of the paper's Figure 4.
 -- Assumes nothing.
-use Prim.Native.Nat.{ℕ, suc, _%_, _*_, _≤_, _<_, max}
+use Prim.Native.Nat.{ℕ, suc, _%_, _*_, _≤_, _<_}
 use native.Mathlib.Omega.{arith}
 use mathlib.Core.Bool.{Bool, true, false, _&&_, cond, false≢true}
 use mathlib.Core.Path.{_≡_, refl, sym, ap, _∙_}
@@ -14,12 +14,12 @@ use Rattle.rules.specs.declared.Step.{Step}
 use Rattle.rules.specs.declared.Step.the-variants.{Add, Remove, Query, Send, Merge, Deliver, Again, Lose}
 use Rattle.rules.specs.Lengths.{M, listed, afterAdd, afterRemove, join}
 use Rattle.rules.specs.LengthLaws.{odd-listed, even-listed, listed-odd, add-listed, add-unlisted, remove-listed, remove-unlisted}
-use Rattle.rules.specs.Table.{sound, capacity, lengthOf, heldWith, heldMerged, merged}
+use Rattle.rules.specs.Table.{sound, capacity, lengthOf, heldMerged, merged}
 use Rattle.rules.specs.Order.{Side, Side.below, Side.same, Side.above, side}
 use Rattle.rules.specs.Operations.{accepted, addTable, absorbTable, removeTable, mergeTable, crowded, raiseRefusal, removeRefusal, mergeRefusal}
 use Rattle.rules.specs.OperationLaws.{raise-length, add-of, absorb-of, remove-length, remove-of, merge-accepted, merge-length, merge-of}
 use Rattle.rules.specs.SlotLaws.{occupied-has}
-use Rattle.rules.specs.Runs.{State, width, tableAt, withTable, slotOf, sightOf, wordsIn, valueIn, refusalOf, valueOf, moved, after}
+use Rattle.rules.specs.Runs.{State, width, tableAt, withTable, slotOf, wordsIn, valueIn, refusalOf, valueOf, moved, after}
 use Rattle.rules.specs.Histories.{parcelAt}
 use Rattle.rules.specs.Sites.{part-fits, tables-at, with-same, with-other}
 use Rattle.rules.specs.RunLaws.{pass, accepted-moves, accepted-sound, accepted-own, add-own, remove-own, merge-own, deliver-own}

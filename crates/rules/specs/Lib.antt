@@ -40,4 +40,5 @@ pub mod Absorbing
 pub mod Reports
 pub mod Figure4
 pub mod Rising
+pub mod Sample
 pub mod Determined

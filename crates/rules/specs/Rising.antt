@@ -4,21 +4,20 @@
 use Prim.Native.Nat.{ℕ, zero, suc, _≤_, _<_, max}
 use native.Mathlib.Nat.{le-refl, le-trans}
 use native.Mathlib.Omega.{arith}
-use mathlib.Core.Bool.{Bool, true, false, _||_, cond, or-true, false≢true}
+use mathlib.Core.Bool.{Bool, true, false, cond, false≢true}
 use mathlib.Core.Path.{_≡_, refl, sym, ap, _∙_}
-use mathlib.Core.Logic.{_⊎_, ⊎-elim, inl, inr}
+use mathlib.Core.Logic.{⊎-elim}
 use mathlib.Core.List.{List, [], _∷_}
 use lib.ListN.{length}
-use lib.Dec.{eqb, ltb}
-use borrow.Author.Tests.{lt-ltb, le-ltb, ltb-true, ltb-false, eq-eqb, ne-eqb}
+use lib.Dec.{ltb}
+use borrow.Author.Tests.{lt-ltb, le-ltb, eq-eqb, ne-eqb}
 use Rattle.rules.specs.declared.Run.{Run}
-use Rattle.rules.specs.declared.Step.{Step}
 use Rattle.rules.specs.declared.Step.the-variants.{Merge}
-use Rattle.rules.specs.Lengths.{M, join}
+use Rattle.rules.specs.Lengths.{M}
 use Rattle.rules.specs.Table.{sound, capacity, lengthOf, merged, heldMerged, rises}
 use Rattle.rules.specs.Order.{Side, Side.below, Side.same, Side.above, side, lt-or-le}
-use Rattle.rules.specs.View.{Unused, Unused.none, Unused.pair, Sound, Sound.rest, Sound.used, seen}
-use Rattle.rules.specs.Law.{of-same, of-other, of-unused, of-below}
+use Rattle.rules.specs.View.{Unused.none, Unused.pair, Sound, Sound.rest, Sound.used, seen}
+use Rattle.rules.specs.Law.{of-same, of-other, of-unused}
 use Rattle.rules.specs.Merge.{merged-of}
 use Rattle.rules.specs.Runs.{State, tableAt, valueIn, refusalOf, valueOf, after}
 use Rattle.rules.specs.Histories.{among}
