@@ -49,7 +49,7 @@ add-cases n = (λ p. add-unlisted n (even-listed n p), λ p. add-listed n (odd-l
 pub remove-cases : (n : ℕ) → (n % 2 ≡ 0 → afterRemove n ≡ n) × (n % 2 ≡ 1 → afterRemove n ≡ suc n)
 remove-cases n = (λ p. remove-unlisted n (even-listed n p), λ p. remove-listed n (odd-listed n p))
 
--- in(s, e) = odd(s(e)): a length is listed "exactly when its length is odd"
+-- in(s, e) = odd(s(e)): an id is listed "exactly when its length is odd"
 pub listed-cases : (n : ℕ) → (listed n ≡ true → n % 2 ≡ 1) × (n % 2 ≡ 1 → listed n ≡ true)
 listed-cases n = (listed-odd n, odd-listed n)
 
@@ -72,7 +72,7 @@ module _ (run : Run) (s : State) (step : Step) (ok : refusalOf run s step ≡ 0)
       → tableAt run (after run s step .words) j ≡ u
   put-in j u p size put = rw put (with-same run (s .words) u j (run .sites) p long (size ∙ table-wide j p))
 
-  -- and the lengths of every other site
+  -- so the site has that table's lengths, and every other site has the lengths it had
   put-of : (j : ℕ) (u : List ℕ) → j < run .sites → length u ≡ length (tableAt run (s .words) j) → after run s step .words ≡ withTable run (s .words) j u
       → (k e : ℕ) → lengthIn run (after run s step) k e ≡ cond (eqb j k) (lengthOf u e) (lengthIn run s k e)
   put-of j u p size put k e = go (side j k)
