@@ -42,3 +42,7 @@ pub mod Figure4
 pub mod Rising
 pub mod Sample
 pub mod Determined
+pub mod Distinct
+pub mod HeldIds
+pub mod Offering
+pub mod Room
