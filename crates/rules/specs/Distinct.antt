@@ -1,6 +1,6 @@
 -- Lists of ids: an id among some, and how many different ids there are.
 -- Assumes nothing.
-use Prim.Native.Nat.{ℕ, zero, suc, _+_, _≤_, _<_}
+use Prim.Native.Nat.{ℕ, suc, _+_, _≤_, _<_}
 use native.Mathlib.Nat.{le-refl}
 use native.Mathlib.Omega.{arith}
 use mathlib.Core.Bool.{Bool, true, false, _&&_, _||_, cond, or-true, or-assoc, false≢true}
@@ -16,7 +16,7 @@ use Rattle.rules.specs.Histories.{among, distinct}
 abbrev pub AllAmong : List ℕ → List ℕ → Type 0
 AllAmong xs ys = (x : ℕ) → among x xs ≡ true → among x ys ≡ true
 
--- ---- an id among two lists joined
+-- ---- two lists joined: an id is among both together exactly where it is among one of them
 pub among-append : (x : ℕ) (xs ys : List ℕ) → among x (xs ++ ys) ≡ among x xs || among x ys
 unfolding among
 among-append x [] ys = refl

@@ -11,7 +11,7 @@ use lib.ListN.{length}
 use lib.Dec.{eqb}
 use borrow.Author.Tests.{le-leb, eqb-true, eqb-false, eq-eqb, ne-eqb, not-true}
 use Rattle.rules.specs.LengthLaws.{remove-none}
-use Rattle.rules.specs.Lengths.{afterRemove, join}
+use Rattle.rules.specs.Lengths.{afterRemove}
 use Rattle.rules.specs.Table.{sound, lengthOf, held, heldWith, newIds, heldMerged}
 use Rattle.rules.specs.Order.{Side, Side.below, Side.same, Side.above, side}
 use Rattle.rules.specs.View.{Unused, Unused.none, Unused.pair, Sound, Sound.rest, Sound.used, seen}
@@ -40,7 +40,7 @@ unfolding idsOf rising
 ids-rise (rest z) = rw (ids-unused z)
 ids-rise (used {e = e} {n = n} {t = t} l m s) = rw (le-leb _ e l) (ids-rise s)
 
--- an id is among them exactly where it has a length above 0
+-- and they hold the ids that have a length
 ids-seen : {most lo : ℕ} {t : List ℕ} → Sound most lo t → (x : ℕ) → among x (idsOf t) ≡ not (eqb (lengthOf t x) 0)
 unfolding idsOf among
 ids-seen (rest z) x = rw (ids-unused z, of-unused z x)
@@ -67,14 +67,16 @@ module _ (most : ℕ) (t : List ℕ) (ok : sound most t ≡ true) where
   pub ids-among : (x : ℕ) → among x (idsOf t) ≡ not (eqb (lengthOf t x) 0)
   ids-among x = ids-seen (seen {most = most} {lo = 0} ok) x
 
+  -- one that has a length is among them
   pub held-among : (x : ℕ) → 1 ≤ lengthOf t x → among x (idsOf t) ≡ true
   held-among x h = rw (ids-among x, ne-eqb (lengthOf t x) 0 (omega arith))
 
+  -- and one that is among them has a length
   pub among-held : (x : ℕ) → among x (idsOf t) ≡ true → 1 ≤ lengthOf t x
   among-held x h = omega (arith, eqb-false (lengthOf t x) 0 (not-true _ (sym (ids-among x) ∙ h)))
 
   -- ---- the entries that a step needs, as different ids
-  -- a length for one more id
+  -- a length for one id needs no more entries than there are different ids with that one
   pub needed-for-one : (e n : ℕ) → heldWith t e n ≤ distinct (e ∷ idsOf t)
   unfolding heldWith distinct
   needed-for-one e zero = rw (← ids-distinct) (distinct-right (e ∷ []) (idsOf t))

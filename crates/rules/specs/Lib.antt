@@ -46,3 +46,4 @@ pub mod Distinct
 pub mod HeldIds
 pub mod Offering
 pub mod Room
+pub mod RoomCases

@@ -1,44 +1,44 @@
 -- What the sites of a run are offered: an id that a site holds was offered to it, and where no more different ids are offered than a table
 -- holds, no step is refused for lack of room.
 -- Assumes nothing.
-use Prim.Native.Nat.{ℕ, zero, suc, _*_, _/_, _≤_, _<_}
-use native.Mathlib.Nat.{le-trans}
+use Prim.Native.Nat.{ℕ, zero, suc, _*_, _≤_, _<_}
 use native.Mathlib.Omega.{arith}
-use mathlib.Core.Bool.{Bool, true, false, _||_, not, cond}
-use mathlib.Core.Path.{_≡_, refl, sym, ap, _∙_}
+use mathlib.Core.Bool.{Bool, true, false, cond}
+use mathlib.Core.Path.{_≡_, refl, sym, _∙_}
 use mathlib.Core.List.{List, [], _∷_, _++_, append-assoc, append-nil}
 use lib.ListN.{length, getD, take, drop, replicate, length-take, length-drop}
-use lib.Dec.{leb, ltb, eqb}
-use borrow.Author.Tests.{leb-false, lt-leb, ltb-true, eqb-true, eqb-false, eq-eqb, not-false}
+use lib.Dec.{eqb}
+use borrow.Author.Tests.{lt-leb, eqb-true, eqb-false}
 use Rattle.rules.specs.declared.Run.{Run}
-use Rattle.rules.specs.declared.Parcel.{Parcel}
 use Rattle.rules.specs.declared.Step.{Step}
 use Rattle.rules.specs.declared.Step.the-variants.{Add, Remove, Query, Send, Merge, Deliver, Again, Lose}
 use Rattle.rules.specs.Lengths.{M, afterAdd, join}
 use Rattle.rules.specs.LengthLaws.{add-rises, add-fits, join-upper, join-least}
-use Rattle.rules.specs.Table.{sound, capacity, lengthOf, heldWith, heldMerged}
+use Rattle.rules.specs.Table.{sound, capacity, lengthOf}
 use Rattle.rules.specs.Law.{of-most}
 use Rattle.rules.specs.Operations.{addTable, absorbTable, removeTable, mergeTable}
 use Rattle.rules.specs.OperationLaws.{raise-length, remove-length, merge-length}
-use Rattle.rules.specs.Parcels.{noParcel, isOccupied}
+use Rattle.rules.specs.Parcels.{noParcel}
 use Rattle.rules.specs.SlotLaws.{occupied-has}
 use Rattle.rules.specs.Sites.{part-fits, tables-at, with-same}
-use Rattle.rules.specs.Runs.{State, width, tableAt, withTable, slotOf, sightOf, Test, _when_, outside, firstGiven, stepTests, wordsIn, refusalOf, moved, after, freshRefusal, empty, afterFresh}
-use Rattle.rules.specs.RunLaws.{StateSound, after-keeps, sound-judged, neither, add-own, remove-own, merge-own, deliver-own}
+use Rattle.rules.specs.Runs.{State, width, tableAt, withTable, slotOf, sightOf, wordsIn, refusalOf, after, freshRefusal, afterFresh}
+use Rattle.rules.specs.RunLaws.{StateSound, after-keeps, merge-own, deliver-own}
 use Rattle.rules.specs.SoundRuns.{words-long, fresh-sound, after-sound, others-stay}
-use Rattle.rules.specs.Histories.{ran, siteIn, idsOf, offer, offeredIn, offered, among, distinct}
-use Rattle.rules.specs.Distinct.{AllAmong, among-left, among-right, among-either, distinct-grows, distinct-left}
-use Rattle.rules.specs.HeldIds.{held-among, among-held, needed-for-one, needed-for-all, raise-ids, remove-ids, merge-ids}
+use Rattle.rules.specs.Histories.{ran, siteIn, idsOf, offer, offeredIn, offered, among}
+use Rattle.rules.specs.Distinct.{AllAmong, among-left, among-right, among-either}
+use Rattle.rules.specs.HeldIds.{held-among, raise-ids, remove-ids, merge-ids}
 
 -- ---- the tables of a sound state
 module _ (run : Run) (s : State) (ok : StateSound run s) where
   long : length (s .words) ≡ run .sites * width run
   long = words-long run _ _ (ok .0)
 
+  -- each is sound
   pub site-sound : (k : ℕ) → k < run .sites → sound M (tableAt run (s .words) k) ≡ true
   unfolding tableAt
   site-sound k h = tables-at M (width run) (run .sites) (s .words) (ok .1) k h
 
+  -- each is 2 × C words long
   pub site-length : (k : ℕ) → k < run .sites → length (tableAt run (s .words) k) ≡ width run
   unfolding tableAt
   site-length k h = simp (length-take, length-drop) (omega (arith, long, part-fits k (run .sites) (width run) h))
@@ -116,6 +116,7 @@ module _ (run : Run) where
   ran-append s [] ys = refl
   ran-append s (x ∷ xs) ys = ran-append (after run s x) xs ys
 
+  -- and what a site is offered by one list of steps, and then by another
   pub offered-append : (s : State) (k : ℕ) (xs ys : List Step) → offered run s k (xs ++ ys) ≡ offered run s k xs ++ offered run (ran run s xs) k ys
   unfolding ran offered
   offered-append s k [] ys = refl

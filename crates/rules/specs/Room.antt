@@ -1,13 +1,12 @@
 -- The room of a run: where a site is offered no more different ids than a table holds, no step is refused there for lack of room.
 -- Assumes nothing.
-use Prim.Native.Nat.{ℕ, zero, suc, _≤_, _<_}
+use Prim.Native.Nat.{ℕ, _≤_, _<_}
 use native.Mathlib.Nat.{le-trans}
 use native.Mathlib.Omega.{arith}
-use mathlib.Core.Bool.{Bool, true, false, cond}
-use mathlib.Core.Path.{_≡_, refl, sym, ap, _∙_}
+use mathlib.Core.Bool.{Bool, true, false}
+use mathlib.Core.Path.{_≡_, refl, sym, _∙_}
 use mathlib.Core.List.{List, [], _∷_, _++_, append-assoc}
 use lib.ListN.{length, getD}
-use lib.Dec.{eqb}
 use borrow.Author.Tests.{leb-false, ltb-true, eq-eqb}
 use Rattle.rules.specs.declared.Run.{Run}
 use Rattle.rules.specs.declared.Step.{Step}
@@ -15,11 +14,11 @@ use Rattle.rules.specs.declared.Step.the-variants.{Add, Remove, Query, S
 use Rattle.rules.specs.Lengths.{M, afterAdd, join}
 use Rattle.rules.specs.Table.{capacity, lengthOf, heldWith, heldMerged}
 use Rattle.rules.specs.Parcels.{noParcel}
-use Rattle.rules.specs.Runs.{State, tableAt, slotOf, sightOf, Test, _when_, outside, firstGiven, stepTests, refusalOf, after, freshRefusal, afterFresh}
+use Rattle.rules.specs.Runs.{State, tableAt, slotOf, sightOf, Test, _when_, outside, firstGiven, stepTests, refusalOf, freshRefusal, afterFresh}
 use Rattle.rules.specs.RunLaws.{StateSound, sound-judged, neither}
 use Rattle.rules.specs.SoundRuns.{fresh-sound}
 use Rattle.rules.specs.Histories.{ran, siteIn, idsOf, offer, offeredIn, offered, distinct}
-use Rattle.rules.specs.Distinct.{AllAmong, among-left, among-right, among-either, distinct-grows, distinct-left}
+use Rattle.rules.specs.Distinct.{among-left, among-right, among-either, distinct-grows, distinct-left}
 use Rattle.rules.specs.HeldIds.{needed-for-one, needed-for-all}
 use Rattle.rules.specs.Offering.{site-sound, site-capacity, ran-sound, offered-append, held-ids}
 
