@@ -1,5 +1,4 @@
--- What the sites of a run are offered: an id that a site holds was offered to it, and where no more different ids are offered than a table
--- holds, no step is refused for lack of room.
+-- What the sites of a run are offered: whatever the steps, refused ones among them, an id that a site holds was offered to it.
 -- Assumes nothing.
 use Prim.Native.Nat.{ℕ, zero, suc, _*_, _≤_, _<_}
 use native.Mathlib.Omega.{arith}

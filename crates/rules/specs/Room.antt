@@ -47,7 +47,7 @@ module _ (run : Run) (s : State) (ok : StateSound run s) where
   more : (k : ℕ) → k < run .sites → (n : ℕ) → capacity (tableAt run (s .words) k) < n → run .capacity < n
   more k h n p = omega (arith, site-capacity run s ok k h)
 
-  -- a step refused for lack of room is offered to a site of the run, and the ids that this site holds are, with those offered, more than C
+  -- where a step is refused with 8, the ids that the site holds are, with those that the step offers, more than C different ones
   pub crowded-ids : (step : Step) → siteIn run (sightOf run s step) step < run .sites → refusalOf run s step ≡ 8
       → run .capacity < distinct (offer run s step ++ idsOf (tableAt run (s .words) (siteIn run (sightOf run s step) step)))
   unfolding siteIn offer slotOf
