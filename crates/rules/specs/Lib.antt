@@ -47,3 +47,4 @@ pub mod HeldIds
 pub mod Offering
 pub mod Room
 pub mod RoomCases
+pub mod Calls
