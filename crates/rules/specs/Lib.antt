@@ -48,3 +48,4 @@ pub mod Offering
 pub mod Room
 pub mod RoomCases
 pub mod Calls
+pub mod Promises

@@ -1,0 +1,141 @@
+-- What the whole guarantees: the page to open first. Each theorem here is one sentence of the three demands, said of the very definitions that
+-- the contracts cite, and proved in the module that its last line names. Nothing else stands here.
+-- Assumes nothing.
+use Prim.Native.Nat.{ℕ, suc, _+_, _%_, _^_, _≤_, _<_}
+use mathlib.Core.Bool.{Bool, true, false, _&&_, cond}
+use mathlib.Core.Path.{_≡_}
+use mathlib.Core.List.{List, [], _∷_, _++_}
+use lib.ListN.{length}
+use lib.Dec.{eqb}
+use Rattle.rules.specs.declared.Run.{Run}
+use Rattle.rules.specs.declared.Answer.{Answer}
+use Rattle.rules.specs.declared.Step.{Step}
+use Rattle.rules.specs.declared.Step.the-variants.{Add, Remove, Query, Send, Merge, Deliver, Again, Lose}
+use Rattle.rules.specs.declared.Line.the-variants.{Numbers}
+use Rattle.rules.specs.declared.Named.the-variants.{Is}
+use Rattle.rules.specs.Lengths.{listed, afterAdd, afterRemove, join}
+use Rattle.rules.specs.Table.{lengthOf, rises}
+use Rattle.rules.specs.Parcels.{waiting}
+use Rattle.rules.specs.Runs.{State, tableAt, sightOf, refusalOf, valueOf, answerOf, after, freshRefusal, afterFresh, Stepped, Freshened}
+use Rattle.rules.specs.Histories.{ran, siteIn, isSend, isAgain, isDeliver, isLose, acceptedOf, parcelAt, absorbed, largest, samePairs, offered, distinct}
+use Rattle.rules.specs.Lines.{textOf, namesStep, numbersOf}
+use Rattle.rules.specs.StepLines.{lineOf, stepOf}
+use Rattle.rules.specs.StepLineLaws.{Fits}
+use Rattle.rules.specs.RunLaws as RunLaws
+use Rattle.rules.specs.Figure4.{lengthIn}
+use Rattle.rules.specs.Figure4 as Figure4
+use Rattle.rules.specs.Rising as Rising
+use Rattle.rules.specs.Counting as Counting
+use Rattle.rules.specs.Absorbing as Absorbing
+use Rattle.rules.specs.Room as Room
+use Rattle.rules.specs.LineLaws as LineLaws
+use Rattle.rules.specs.StepLineLaws as StepLineLaws
+use Rattle.rules.specs.Determined as Determined
+
+-- ---- demand 1
+-- "Bad input gets the listed refusal, with nothing written": a refused step answers its number with 0, and leaves the state as it is
+pub refused-writes-nothing : (run : Run) (s : State) (step : Step) (r : ℕ) → refusalOf run s step ≡ suc r
+    → (after run s step ≡ s) × (answerOf run s step ≡ record { refusal = suc r; value = 0 })
+refused-writes-nothing run s step r h = (RunLaws.refused-stays run s step r h, RunLaws.refused-answer run s step r h)
+
+-- ---- demand 2: "Adding, removing, merging and membership give exactly what the 2020 paper defines"
+module _ (run : Run) (s : State) where
+  -- add(s, e)
+  pub add-is-the-papers : (j x : ℕ) → refusalOf run s (Add j x) ≡ 0 → (k e : ℕ)
+      → lengthIn run (after run s (Add j x)) k e ≡ cond (eqb j k && eqb x e) (afterAdd (lengthIn run s k e)) (lengthIn run s k e)
+  add-is-the-papers = Figure4.figure4-add run s
+
+  -- remove(s, e)
+  pub remove-is-the-papers : (j x : ℕ) → refusalOf run s (Remove j x) ≡ 0 → (k e : ℕ)
+      → lengthIn run (after run s (Remove j x)) k e ≡ cond (eqb j k && eqb x e) (afterRemove (lengthIn run s k e)) (lengthIn run s k e)
+  remove-is-the-papers = Figure4.figure4-remove run s
+
+  -- s ⊔ s'
+  pub merge-is-the-papers : (f t : ℕ) → refusalOf run s (Merge f t) ≡ 0 → (k e : ℕ)
+      → lengthIn run (after run s (Merge f t)) k e ≡ cond (eqb t k) (join (lengthIn run s k e) (lengthIn run s f e)) (lengthIn run s k e)
+  merge-is-the-papers = Figure4.figure4-merge run s
+
+  -- a delivery merges its single entry
+  pub deliver-is-the-papers : (i : ℕ) → refusalOf run s (Deliver i) ≡ 0 → (k e : ℕ)
+      → lengthIn run (after run s (Deliver i)) k e
+      ≡ cond (eqb (parcelAt s i .site) k && eqb (parcelAt s i .id) e) (join (lengthIn run s k e) (parcelAt s i .length)) (lengthIn run s k e)
+  deliver-is-the-papers = Figure4.figure4-deliver run s
+
+  -- in(s, e): a query answers the length, and it is listed exactly when odd
+  pub query-is-the-papers : (k e : ℕ)
+      → (valueOf run s (Query k e) ≡ lengthIn run s k e) × (listed (valueOf run s (Query k e)) ≡ true → lengthIn run s k e % 2 ≡ 1)
+      × (lengthIn run s k e % 2 ≡ 1 → listed (valueOf run s (Query k e)) ≡ true)
+  query-is-the-papers = Figure4.figure4-query run s
+
+  -- "a merge reports how many lengths rose": counted over the table that it leaves, against the one before
+  pub merge-counts-the-rises : (f t : ℕ) → refusalOf run s (Merge f t) ≡ 0
+      → valueOf run s (Merge f t) ≡ rises (tableAt run (s .words) t) (tableAt run (after run s (Merge f t) .words) t)
+  merge-counts-the-rises = Rising.merge-value run s
+
+-- "A step line written is read back as the same step": by the step, and by the four numbers
+pub written-is-read : (step : Step) → Fits step → stepOf (lineOf step) ≡ Is step
+written-is-read = StepLineLaws.written-step
+
+pub written-is-read-as-numbers : (kind first second id : ℕ) → namesStep kind second id ≡ true → first < 2 ^ 64 → second < 2 ^ 64 → id < 2 ^ 64
+    → numbersOf (textOf kind first second id) ≡ Numbers kind first second id
+written-is-read-as-numbers = LineLaws.written-read
+
+-- "a line that is read is written back byte for byte"
+pub read-is-written : (line : List ℕ) (step : Step) → stepOf line ≡ Is step → (lineOf step ≡ line) × Fits step
+read-is-written = StepLineLaws.read-step
+
+-- ---- demands 2 and 3: "Start fresh and take any list of steps, refused ones among them."
+module _ (run : Run) (s : State) (fresh : freshRefusal run (length (s .words)) (length (s .slots)) ≡ 0) where
+  abbrev pub start : State
+  start = afterFresh run s
+
+  -- "From a fresh start each counter is the number of accepted steps of its kind"
+  pub counters-count : (steps : List Step)
+      → (ran run start steps .ledger .sent ≡ acceptedOf isSend run start steps)
+      × (ran run start steps .ledger .copied ≡ acceptedOf isAgain run start steps)
+      × (ran run start steps .ledger .absorbed ≡ acceptedOf isDeliver run start steps)
+      × (ran run start steps .ledger .lost ≡ acceptedOf isLose run start steps)
+  counters-count steps = (
+    Counting.sent-is-counted run s fresh steps,
+    Counting.copied-is-counted run s fresh steps,
+    Counting.absorbed-is-counted run s fresh steps,
+    Counting.lost-is-counted run s fresh steps,
+  )
+
+  -- "sent + copied = absorbed + lost + waiting"
+  pub books-balance : (steps : List Step)
+      → ran run start steps .ledger .sent + ran run start steps .ledger .copied
+      ≡ ran run start steps .ledger .absorbed + ran run start steps .ledger .lost + waiting (ran run start steps .slots)
+  books-balance = Counting.books-balance run s fresh
+
+  -- no step of the run is refused with 1 or with 2
+  pub never-1-or-2 : (before : List Step) (step : Step) → (refusalOf run (ran run start before) step ≡ 1 → ⊥) × (refusalOf run (ran run start before) step ≡ 2 → ⊥)
+  never-1-or-2 before step = (Counting.never-1 run s fresh before step, Counting.never-2 run s fresh before step)
+
+  -- "For each site and id, the length held is the largest it has absorbed .., or zero if none."
+  pub held-is-largest-absorbed : (steps : List Step) (k e : ℕ) → lengthOf (tableAt run (ran run start steps .words) k) e ≡ largest (absorbed run start k steps) e
+  held-is-largest-absorbed = Absorbing.held-is-largest run s fresh
+
+  -- "So two sites in one run that absorbed the same set of id and length pairs, in whichever order and however often, hold equal tables."
+  pub same-pairs-same-tables : (steps : List Step) (j k : ℕ) → j < run .sites → k < run .sites
+      → samePairs (absorbed run start j steps) (absorbed run start k steps) ≡ true
+      → tableAt run (ran run start steps .words) j ≡ tableAt run (ran run start steps .words) k
+  same-pairs-same-tables = Absorbing.same-pairs-same-tables run s fresh
+
+  -- "And a site that is offered, over the whole run .., no more distinct ids than a table holds never refuses one for lack of room."
+  pub room-suffices : (before : List Step) (step : Step) (rest : List Step) (k : ℕ) → k < run .sites → siteIn run (sightOf run (ran run start before) step) step ≡ k
+      → distinct (offered run start k (before ++ (step ∷ rest))) ≤ run .capacity → refusalOf run (ran run start before) step ≡ 8 → ⊥
+  room-suffices = Room.room-suffices run s fresh
+
+-- "It never falls": at no step, in no state
+pub never-falls : (run : Run) (s : State) (step : Step) (k e : ℕ) → lengthOf (tableAt run (s .words) k) e ≤ lengthOf (tableAt run (after run s step .words) k) e
+never-falls = Absorbing.never-falls
+
+-- ---- "Prove that two results which both satisfy it are equal": the contracts of `step` and of `fresh`
+pub step-determined : (run : Run) (before : State) (step : Step) {r r′ : Answer} {left left′ : State}
+    → Stepped run before step r left → Stepped run before step r′ left′ → (r ≡ r′) × (left ≡ left′)
+step-determined = Determined.stepped-determined
+
+pub fresh-determined : (run : Run) (before : State) {r r′ : ℕ} {left left′ : State}
+    → Freshened run before r left → Freshened run before r′ left′ → (r ≡ r′) × (left ≡ left′)
+fresh-determined = Determined.freshened-determined
