@@ -1,0 +1,9 @@
+pub mod Digits
+pub mod Pieces
+pub mod Fields
+pub mod Leads
+pub mod Readings
+pub mod Spelling
+pub mod Steps
+pub mod Writings
+pub mod Areas

@@ -1,0 +1,115 @@
+-- `lines::number::read_number` meets its contract. Invariant: the run read on from the value so far, at the place so far, is the run from the start.
+-- Assumes nothing.
+use borrow.Author.Needs.{needs}
+use native.Mathlib.Omega.{arith}
+use mathlib.Core.Path.{_≡_, refl, sym, ap, _∙_}
+use Prim.Native.Nat.{ℕ, _+_, _-_, _*_, _^_, _≤_, _<_, max}
+use lib.ListN.{length, getD, drop}
+use Rattle.rules.specs.Text.{front, refused, pick}
+use Rattle.rules.specs.Number.{digitOf, digitRun, readNumber, fair}
+use Rattle.rules.specs.NumberLaws.{below}
+use mathlib.Core.Logic.{⊎-elim}
+use denote.Ref.{now}
+use Rattle.rules.specs.LinePlaces.{numberAt, to-place, to-none}
+use Rattle.lines.proofs.Digits.{run-more, run-end, run-other, refuse-over, refuse-empty, accept, refuse-unfair}
+use Rattle.lines.proofs.number.read_number.Statement.{statement}
+use Rattle.lines.proofs.number.read_number.Tie as tie
+
+abbrev Inv-loop : tie.InvT-loop
+Inv-loop line place v₀ i₀ v i = (place ≤ i) × (i ≤ max place (length line)) × (v < 2 ^ 64) × (digitRun v (drop i line) ≡ digitRun 0 (drop place line))
+
+abbrev μ-loop : tie.MeasureT-loop
+μ-loop line place v₀ i₀ v i = length line - i
+
+loop-holds : tie.Need-loop-holds Inv-loop μ-loop
+loop-holds c = (omega arith, omega arith, omega arith, refl)
+
+shared-slice-read-digit : tie.Need-shared-slice-read-digit Inv-loop μ-loop
+shared-slice-read-digit c = omega arith
+
+digit-requires : tie.Need-digit-requires Inv-loop μ-loop
+digit-requires c κs = search needs
+
+returns : tie.Need-returns Inv-loop μ-loop
+returns c = refuse-over _ _ _ _ _ (c .before .before .before .before .loop-test .taken) (c .before .before .digit .ensures) (c .before .if1 .left) (c .before .before .before .before .before .loop .inv .3) (omega arith)
+
+mul-t : tie.Need-mul-t Inv-loop μ-loop
+mul-t c = omega arith
+
+sub-if3 : tie.Need-sub-if3 Inv-loop μ-loop
+sub-if3 c = omega arith
+
+returns-2 : tie.Need-returns-2 Inv-loop μ-loop
+returns-2 c = refuse-over _ _ _ _ _ (c .before .before .before .before .before .loop-test .taken) (c .before .before .before .digit .ensures) (c .before .before .if1 .left) (c .before .before .before .before .before .before .loop .inv .3) (omega arith)
+
+add-v : tie.Need-add-v Inv-loop μ-loop
+add-v c = omega arith
+
+add-i : tie.Need-add-i Inv-loop μ-loop
+add-i c = omega arith
+
+loop-less : tie.Need-loop-less Inv-loop μ-loop
+loop-less c = omega arith
+
+loop-again : tie.Need-loop-again Inv-loop μ-loop
+loop-again c = (
+  omega arith,
+  omega arith,
+  omega arith,
+  run-more _ (c .before .before .before .before .before .before .before .before .args .place) _ _ _ (c .before .before .before .before .before .loop-test .taken) (c .before .before .before .digit .ensures) (c .before .before .if1 .left) (c .before .before .before .before .before .before .loop .inv .3),
+)
+
+halt : (c : tie.Left-loop Inv-loop μ-loop) → digitRun (c .before .loop .v) (drop (c .before .loop .i) (now (c .before .before .before .args .line))) ≡ front (c .before .loop .v) (drop (c .before .loop .i) (now (c .before .before .before .args .line)))
+halt c = ⊎-elim (λ w. run-end _ _ _ (w .left)) (λ w. run-other _ _ _ (w .0 .taken) (omega (arith, w .2 .ensures, w .3 .taken))) (c .loop-test .came)
+
+-- the run from the place, in whole
+whole : (c : tie.Left-loop Inv-loop μ-loop) → digitRun 0 (drop (c .before .before .before .args .place) (now (c .before .before .before .args .line))) ≡ front (c .before .loop .v) (drop (c .before .loop .i) (now (c .before .before .before .args .line)))
+whole c = sym (c .before .loop .inv .3) ∙ halt c
+
+returns-3 : tie.Need-returns-3 Inv-loop μ-loop
+returns-3 c = refuse-empty _ _ _ (c .before .before .loop .i) (whole (c .before)) (c .if4 .taken)
+
+shared-slice-read-is-fair : tie.Need-shared-slice-read-is-fair Inv-loop μ-loop
+shared-slice-read-is-fair c = omega arith
+
+sub-is-fair : tie.Need-sub-is-fair Inv-loop μ-loop
+sub-is-fair c = omega arith
+
+is-fair-requires : tie.Need-is-fair-requires Inv-loop μ-loop
+is-fair-requires c κs = search needs
+
+-- where a digit was passed, the place is within the line
+within : (c : tie.Else4 Inv-loop μ-loop) → c .before .before .loop .i ≤ length (now (c .before .before .before .before .args .line))
+within c = below (c .before .before .before .before .args .place) (c .before .before .loop .i) (λ h. omega arith) (λ h. absurd (c .if4 .left (omega arith)))
+
+returns-4 : tie.Need-returns-4 Inv-loop μ-loop
+returns-4 c = let l = c .before .before .before .before in
+    accept _ _ _ _ (l .before .loop .inv .0) (within (c .before .before .before)) (whole l) (sym (c .before .is-fair .ensures) ∙ c .if5 .taken)
+
+returns-5 : tie.Need-returns-5 Inv-loop μ-loop
+returns-5 c = let l = c .before .before .before .before in
+    refuse-unfair _ _ _ (l .before .loop .i) (l .before .loop .inv .0) (within (c .before .before .before)) (whole l) (sym (c .before .is-fair .ensures) ∙ c .if5 .left)
+
+pub read-number-spec : {M : Type 1} → statement M
+read-number-spec =
+    tie.close
+    (tie.spec
+    Inv-loop
+    μ-loop
+    loop-holds
+    shared-slice-read-digit
+    digit-requires
+    returns
+    mul-t
+    sub-if3
+    returns-2
+    add-v
+    add-i
+    loop-less
+    loop-again
+    returns-3
+    shared-slice-read-is-fair
+    sub-is-fair
+    is-fair-requires
+    returns-4
+    returns-5)

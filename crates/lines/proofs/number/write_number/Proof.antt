@@ -1,0 +1,109 @@
+-- `lines::number::write_number` meets its contract. Invariant: the digits still to be written, followed by the buffer from the place on, are the
+-- digits of the number followed by the bytes that stood behind them; in front of the place nothing has changed. Assumes nothing.
+use borrow.Author.Needs.{needs}
+use native.Mathlib.Omega.{arith}
+use mathlib.Core.Path.{_≡_, refl, sym, ap, _∙_}
+use mathlib.Core.List.{_++_}
+use Prim.Native.Nat.{ℕ, _+_, _-_, _/_, _%_, _^_, _≤_, _<_}
+use lib.ListN.{length, take, drop, set, length-set}
+use denote.Ref.{now}
+use Rattle.rules.specs.Number.{digits}
+use Rattle.rules.specs.NumberLaws.{one-digit, more-digits, digits-some}
+use Rattle.lines.proofs.Spelling.{spell-turn, spell-last, front-kept, put-is}
+use Rattle.lines.proofs.number.write_number.Statement.{statement}
+use Rattle.lines.proofs.number.write_number.Tie as tie
+
+abbrev Inv-loop : tie.InvT-loop
+Inv-loop out₀ place n end i₀ rest₀ out i rest =
+    (digits rest ++ drop i out ≡ digits n ++ drop (place + length (digits n)) out₀) × (take i out ≡ take i out₀) × (i ≡ place + length (digits rest)) × (length out ≡ length out₀) × (rest < 2 ^ 64) × (i ≤ length out₀)
+
+abbrev μ-loop : tie.MeasureT-loop
+μ-loop out₀ place n end i₀ rest₀ out i rest = rest
+
+places-requires : tie.Need-places-requires Inv-loop μ-loop
+places-requires c κs = search needs
+
+add-end : tie.Need-add-end Inv-loop μ-loop
+add-end c = omega arith
+
+loop-holds : tie.Need-loop-holds Inv-loop μ-loop
+loop-holds c = let s = c .before .before .args in
+    let k : s .place + c .places .result ≡ s .place + length (digits (s .n)) = omega arith in
+    (ap (λ (j : ℕ). digits (s .n) ++ drop j (now (s .out))) k, refl, k, refl, omega arith, omega arith)
+
+sub-i : tie.Need-sub-i Inv-loop μ-loop
+sub-i c = omega (arith, digits-some (c .before .loop .rest) (c .before .loop .inv .4))
+
+cast-out : tie.Need-cast-out Inv-loop μ-loop
+cast-out c = omega arith
+
+add-out : tie.Need-add-out Inv-loop μ-loop
+add-out c = omega arith
+
+slice-write-out : tie.Need-slice-write-out Inv-loop μ-loop
+slice-write-out c = omega (arith, digits-some (c .before .loop .rest) (c .before .loop .inv .4))
+
+loop-less : tie.Need-loop-less Inv-loop μ-loop
+loop-less c = omega arith
+
+loop-again : tie.Need-loop-again Inv-loop μ-loop
+loop-again c = let l = c .before .loop in
+    let s = c .before .before .before .before .args in
+    let p : 0 < l .i = omega (arith, digits-some (l .rest) (l .inv .4)) in
+    let m = more-digits (l .rest) (c .loop-test .taken) (l .inv .4) in (
+      spell-turn (l .out) (l .rest) (l .i) (c .loop-test .taken) (l .inv .4) p (omega arith) ∙ l .inv .0,
+      front-kept (l .out) (now (s .out)) (l .i) (48 + l .rest % 10) (l .inv .1),
+      omega arith,
+      simp length-set (l .inv .3),
+      omega arith,
+      omega arith,
+    )
+
+sub-i-2 : tie.Need-sub-i-2 Inv-loop μ-loop
+sub-i-2 c = omega (arith, digits-some (c .before .loop .rest) (c .before .loop .inv .4))
+
+cast-out-2 : tie.Need-cast-out-2 Inv-loop μ-loop
+cast-out-2 c = omega arith
+
+add-out-2 : tie.Need-add-out-2 Inv-loop μ-loop
+add-out-2 c = omega arith
+
+slice-write-out-2 : tie.Need-slice-write-out-2 Inv-loop μ-loop
+slice-write-out-2 c = omega (arith, digits-some (c .before .loop .rest) (c .before .loop .inv .4))
+
+same-length : tie.Need-same-length Inv-loop μ-loop
+same-length c = simp length-set (c .before .loop .inv .3)
+
+returns : tie.Need-returns Inv-loop μ-loop
+returns c = let l = c .before .loop in
+    let s = c .before .before .before .before .args in
+    let one = one-digit (l .rest) (c .loop-test .left) in
+    let z : l .i - 1 ≡ s .place = omega arith in
+    let out = set (l .out) (l .i - 1) (48 + l .rest) in (
+      omega arith,
+      put-is out (now (s .out)) (s .place) (digits (s .n))
+          (ap (λ (k : ℕ). take k out) (sym z) ∙ front-kept (l .out) (now (s .out)) (l .i) (48 + l .rest) (l .inv .1) ∙ ap (λ (k : ℕ). take k (now (s .out))) z)
+          (ap (λ (k : ℕ). drop k out) (sym z) ∙ spell-last (l .out) (l .rest) (l .i) (c .loop-test .left) (omega arith) (omega arith) ∙ l .inv .0),
+    )
+
+pub write-number-spec : {M : Type 1} → statement M
+write-number-spec =
+    tie.close
+    (tie.spec
+    Inv-loop
+    μ-loop
+    places-requires
+    add-end
+    loop-holds
+    sub-i
+    cast-out
+    add-out
+    slice-write-out
+    loop-less
+    loop-again
+    sub-i-2
+    cast-out-2
+    add-out-2
+    slice-write-out-2
+    same-length
+    returns)

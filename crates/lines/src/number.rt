@@ -1,0 +1,97 @@
+// Decimal numbers in a line.
+use rules::Piece;
+ghost use mathlib.Core.Path.{_≡_};
+ghost use Prim.Native.Nat.{_+_, _≤_};
+ghost use lib.ListN.{length};
+ghost use Rattle.rules.specs.Number.{digitOf, fair, digits};
+ghost use Rattle.rules.specs.LinePlaces.{numberAt};
+ghost use Rattle.rules.specs.Put.{put};
+
+// The digit that a byte stands for. 10 says that it stands for none: then one test tells digits from the rest.
+fn digit(c: u8) -> u64
+    ensures { λ r. ⌜ r ≡ digitOf c ⌝ }
+{
+    if 48 <= c {
+        if c <= 57 {
+            return (c - 48) as u64;
+        }
+    }
+    10
+}
+
+// "with no sign and no leading zero but `0` itself": whether a run of digits is a number, by its first byte, its count and its value.
+fn is_fair(first: u8, count: usize, v: u64) -> bool
+    ensures { λ r. ⌜ r ≡ fair first count v ⌝ }
+{
+    if count == 0 {
+        return false;
+    }
+    if count <= 1 {
+        return true;
+    }
+    if first == 48 {
+        return false;
+    }
+    true
+}
+
+// The number that stands at a place of a line, and the place behind it. A value that leaves 64 bits is refused at the digit that does it.
+pub fn read_number(line: &[u8], place: usize) -> Piece
+    ensures { λ r. ⌜ r ≡ numberAt (now (line .entry)) place ⌝ }
+{
+    let mut v: u64 = 0;
+    let mut i = place;
+    while i < line.len() {
+        let d = digit(line[i]);
+        if 10 <= d {
+            break;
+        }
+        if v > 1844674407370955161 {
+            return Piece::Refused;
+        }
+        let t = v * 10;
+        if d > 18446744073709551615 - t {
+            return Piece::Refused;
+        }
+        v = t + d;
+        i += 1;
+    }
+    if i == place {
+        return Piece::Refused;
+    }
+    if is_fair(line[place], i - place, v) {
+        return Piece::Read(v, i);
+    }
+    Piece::Refused
+}
+
+// How many digits a number has.
+pub fn places(n: u64) -> usize
+    ensures { λ r. ⌜ (r ≡ length (digits n)) × (r ≤ 20) ⌝ }
+{
+    let mut k: usize = 1;
+    let mut rest = n;
+    while rest >= 10 {
+        rest = rest / 10;
+        k += 1;
+    }
+    k
+}
+
+// Writes a number at a place, from its last digit to its first, and answers the place behind it.
+pub fn write_number(out: &mut [u8], place: usize, n: u64) -> usize
+    requires { ⌜ place + length (digits n) ≤ length (now out) ⌝ }
+    ensures { λ r. ⌜ (r ≡ place + length (digits n)) × (now (out .exit) ≡ put (now (out .entry)) place (digits n)) ⌝ }
+{
+    let end = place + places(n);
+    let mut i = end;
+    let mut rest = n;
+    while rest >= 10 {
+        i -= 1;
+        out[i] = 48 + (rest % 10) as u8;
+        rest = rest / 10;
+    }
+    i -= 1;
+    out[i] = 48 + rest as u8;
+    end
+}

@@ -1,0 +1,40 @@
+// Fixed pieces of text in a line.
+use rules::Piece;
+ghost use mathlib.Core.Path.{_≡_};
+ghost use Prim.Native.Nat.{_+_, _≤_};
+ghost use lib.ListN.{length};
+ghost use Rattle.rules.specs.LinePlaces.{textAt};
+ghost use Rattle.rules.specs.Put.{put};
+
+// The place behind a piece of text, where the piece stands at a place of the line.
+pub fn read_text(line: &[u8], place: usize, text: &[u8]) -> Piece
+    requires { ⌜ place ≤ length (now line) ⌝ }
+    ensures { λ r. ⌜ r ≡ textAt (now (line .entry)) place (now (text .entry)) ⌝ }
+{
+    let mut i = place;
+    let mut j = 0;
+    while j < text.len() {
+        if i >= line.len() {
+            return Piece::Refused;
+        }
+        if line[i] != text[j] {
+            return Piece::Refused;
+        }
+        i += 1;
+        j += 1;
+    }
+    Piece::Read(0, i)
+}
+
+// Writes a piece of text at a place, and answers the place behind it.
+pub fn write_text(out: &mut [u8], place: usize, text: &[u8]) -> usize
+    requires { ⌜ place + length (now text) ≤ length (now out) ⌝ }
+    ensures { λ r. ⌜ (r ≡ place + length (now (text .entry))) × (now (out .exit) ≡ put (now (out .entry)) place (now (text .entry))) ⌝ }
+{
+    let mut j = 0;
+    while j < text.len() {
+        out[place + j] = text[j];
+        j += 1;
+    }
+    place + j
+}
