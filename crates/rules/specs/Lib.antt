@@ -49,3 +49,6 @@ pub mod Room
 pub mod RoomCases
 pub mod Calls
 pub mod Promises
+pub mod ReportParts
+pub mod ReportLaws
+pub mod ReportSteps

@@ -1,0 +1,126 @@
+-- The laws of a report: how it goes on byte by byte, that it fits the room named for it, and that the contract of `report` leaves one result.
+-- Assumes nothing.
+use Prim.Native.Nat.{ℕ, zero, suc, _+_, _*_, _^_, _≤_, _<_}
+use native.Mathlib.Omega.{arith}
+use mathlib.Core.Path.{_≡_, refl, sym, ap, _∙_}
+use mathlib.Core.Bool.{Bool, true, false, cond}
+use mathlib.Core.List.{List, [], _∷_, _++_}
+use lib.ListN.{length, length-append}
+use lib.Dec.{ltb, eqb}
+use borrow.Author.Tests.{ltb-false, eq-eqb, ne-eqb}
+use Rattle.rules.specs.declared.Step.{Step}
+use Rattle.rules.specs.declared.Step.the-variants.{Add, Remove, Query, Send, Merge, Deliver, Again, Lose}
+use Rattle.rules.specs.declared.Named.{Named}
+use Rattle.rules.specs.declared.Named.the-variants.{Is, NoStep}
+use Rattle.rules.specs.declared.Reported.{Reported}
+use Rattle.rules.specs.Runs.{State, firstGiven, refusalOf, valueOf}
+use Rattle.rules.specs.Text.{ascii}
+use Rattle.rules.specs.Number.{digits}
+use Rattle.rules.specs.NumberLaws.{by-test}
+use Rattle.rules.specs.StepLines.{lineOf, stepOf}
+use Rattle.rules.specs.StepLineLaws.{query-line, read-step}
+use Rattle.rules.specs.Determined.{one-result}
+use Rattle.rules.specs.Reports.{reportRun, reportStart, lineEnd, refusedLine, queryLine, endLines, acceptedLine, lineBy, saidOf, stateOf, lastPiece, reportFrom, reportOf, inputLimit, reportRoom, reportRefusal, reportFor, Told}
+use Rattle.rules.specs.ReportParts.{refusal-within, refused-within, query-within, end-within}
+
+-- ---- how a report goes on, by the next byte of the input
+module _ (n : ℕ) (s : State) (line : List ℕ) where
+  -- a line is ended: its step is run, and the next line begins
+  pub report-line : (c : ℕ) (cs : List ℕ) → c ≡ lineEnd → reportFrom n s line (c ∷ cs) ≡ saidOf n s (stepOf line) ++ reportFrom (suc n) (stateOf s (stepOf line)) [] cs
+  unfolding reportFrom
+  report-line c cs h = rw (eq-eqb c lineEnd h)
+
+  -- every other byte is one more of the line
+  pub report-byte : (c : ℕ) (cs : List ℕ) → (c ≡ lineEnd → ⊥) → reportFrom n s line (c ∷ cs) ≡ reportFrom n s (line ++ (c ∷ [])) cs
+  unfolding reportFrom
+  report-byte c cs h = rw (ne-eqb c lineEnd h)
+
+-- the input is at its end, and so is its last line
+pub report-done : (n : ℕ) (s : State) → reportFrom n s [] [] ≡ endLines s
+unfolding reportFrom lastPiece
+report-done n s = refl
+
+-- or its last piece is not ended
+pub report-unended : (n : ℕ) (s : State) (line : List ℕ) → 0 < length line → reportFrom n s line [] ≡ refusedLine n 11 ++ endLines s
+unfolding reportFrom lastPiece
+report-unended n s [] h = absurd (omega arith)
+report-unended n s (c ∷ cs) h = refl
+
+-- what the whole is made of
+pub report-starts : (input : List ℕ) → reportOf input ≡ reportFrom 1 reportStart [] input
+unfolding reportOf
+report-starts input = refl
+
+-- ---- "a report fits": no byte of the input earns more than 22 bytes
+-- the line of a query has at least 20 bytes
+query-long : (k e : ℕ) → 20 ≤ length (lineOf (Query k e))
+query-long k e = rw (query-line k 0 e) (simp (length-append) (omega arith))
+
+-- an accepted step says nothing, or it is a query, whose own line is long enough
+accepted-within : (n : ℕ) (step : Step) (m : ℕ) → n < 100000 → length (acceptedLine n step m) ≤ 22 * length (lineOf step)
+unfolding acceptedLine
+accepted-within n (Add k e) m p = omega arith
+accepted-within n (Remove k e) m p = omega arith
+accepted-within n (Query k e) m p = let a = query-within n k e m p in omega (arith, query-long k e)
+accepted-within n (Send f t e) m p = omega arith
+accepted-within n (Merge f t) m p = omega arith
+accepted-within n (Deliver i) m p = omega arith
+accepted-within n (Again i) m p = omega arith
+accepted-within n (Lose i) m p = omega arith
+
+line-by-within : (r n : ℕ) (step : Step) (m : ℕ) → n < 100000 → r ≤ 10 → length (lineBy r n step m) ≤ 22 * (length (lineOf step) + 1)
+line-by-within zero n step m p q = let a = accepted-within n step m p in omega arith
+line-by-within (suc r) n step m p q = let a : length (refusedLine n (suc r)) ≤ 22 = refused-within n (suc r) p (omega arith) in omega arith
+
+-- what a text says is within 22 bytes for each of its bytes and its end
+pub said-within : (n : ℕ) (s : State) (line : List ℕ) → n < 100000 → length (saidOf n s (stepOf line)) ≤ 22 * (length line + 1)
+unfolding saidOf
+said-within n s line p = go (stepOf line) refl
+  where
+    go : (r : Named) → stepOf line ≡ r → length (saidOf n s r) ≤ 22 * (length line + 1)
+    go (Is step) e = rw (← read-step line step e .0) (line-by-within (refusalOf reportRun s step) n step (valueOf reportRun s step) p (refusal-within reportRun s step))
+    go NoStep e = let a = refused-within n 11 p (omega arith) in omega arith
+
+last-within : (n : ℕ) (line : List ℕ) → n < 100000 → length (lastPiece n line) ≤ 22 * length line
+unfolding lastPiece
+last-within n [] p = omega arith
+last-within n (c ∷ cs) p = let a = refused-within n 11 p (omega arith) in omega arith
+
+-- the report from line n on: 22 bytes for each byte of the line so far and of the input behind it, and the end
+pub report-within : (n : ℕ) (s : State) (line input : List ℕ) → n + length input < 100000 → length (reportFrom n s line input) ≤ 22 * (length line + length input) + 187
+unfolding reportFrom
+report-within n s line [] p = simp (length-append) (omega (arith, last-within n line (omega arith), end-within s))
+report-within n s line (c ∷ cs) p =
+    by-test (eqb c lineEnd)
+    (λ y.
+    let said : length (saidOf n s (stepOf line)) ≤ 22 * (length line + 1) = said-within n s line (omega arith) in
+    let rest : length (reportFrom (suc n) (stateOf s (stepOf line)) [] cs) ≤ 22 * (0 + length cs) + 187 = report-within (suc n) (stateOf s (stepOf line)) [] cs (omega arith) in
+    rw (y, length-append) (omega arith))
+    (λ n′.
+    let rest : length (reportFrom n s (line ++ (c ∷ [])) cs) ≤ 22 * (length (line ++ (c ∷ [])) + length cs) + 187 = report-within n s (line ++ (c ∷ [])) cs (omega arith) in
+    let long : length (line ++ (c ∷ [])) ≡ length line + 1 = length-append line (c ∷ []) in
+    rw n′ (omega arith))
+
+-- the report of an input within the limit fits the room that is asked of the buffer
+pub report-fits : (input : List ℕ) → length input ≤ inputLimit → length (reportOf input) ≤ reportRoom (length input)
+unfolding reportOf
+report-fits input h = let a = report-within 1 reportStart [] input (omega arith) in omega arith
+
+-- so a call that is not refused has the room for what it writes, and a refused one writes nothing
+pub told-fits : (input before : List ℕ) → length (reportFor input (length before)) ≤ length before
+unfolding reportFor reportRefusal firstGiven
+told-fits input before = go (ltb inputLimit (length input)) (ltb (length before) (reportRoom (length input))) refl refl
+  where
+    go : (over short : Bool) → ltb inputLimit (length input) ≡ over → ltb (length before) (reportRoom (length input)) ≡ short
+        → length (cond (eqb (cond over 12 (cond short 13 0)) 0) (reportOf input) []) ≤ length before
+    go true short p q = omega arith
+    go false true p q = omega arith
+    go false false p q = omega (arith, report-fits input (ltb-false inputLimit (length input) p), ltb-false (length before) (reportRoom (length input)) q)
+
+-- ---- "two results which both satisfy it are equal": the contract of `report` leaves one answer and one buffer
+same-report : (r r′ : Reported) → r .refusal ≡ r′ .refusal → r .written ≡ r′ .written → r ≡ r′
+same-report r r′ p q = ap (λ (k : ℕ). record { refusal = k; written = r .written }) p ∙ ap (λ (k : ℕ). record { refusal = r′ .refusal; written = k }) q
+
+pub report-determined : (input before : List ℕ) {r r′ : Reported} {now now′ : List ℕ} → Told input before r now → Told input before r′ now′ → (r ≡ r′) × (now ≡ now′)
+report-determined input before {r} {r′} a b =
+    (same-report r r′ (one-result (a .refusal) (b .refusal)) (one-result (a .written) (b .written)), one-result (a .bytes) (b .bytes))
