@@ -51,4 +51,6 @@ pub mod Calls
 pub mod Promises
 pub mod ReportParts
 pub mod ReportLaws
+pub mod ReportPieces
 pub mod ReportSteps
+pub mod ReportCases

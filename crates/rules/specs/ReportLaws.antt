@@ -1,26 +1,23 @@
 -- The laws of a report: how it goes on byte by byte, that it fits the room named for it, and that the contract of `report` leaves one result.
 -- Assumes nothing.
-use Prim.Native.Nat.{ℕ, zero, suc, _+_, _*_, _^_, _≤_, _<_}
+use Prim.Native.Nat.{ℕ, zero, suc, _+_, _*_, _≤_, _<_}
 use native.Mathlib.Omega.{arith}
-use mathlib.Core.Path.{_≡_, refl, sym, ap, _∙_}
-use mathlib.Core.Bool.{Bool, true, false, cond}
+use mathlib.Core.Path.{_≡_, refl, ap, _∙_}
 use mathlib.Core.List.{List, [], _∷_, _++_}
 use lib.ListN.{length, length-append}
-use lib.Dec.{ltb, eqb}
-use borrow.Author.Tests.{ltb-false, eq-eqb, ne-eqb}
+use lib.Dec.{eqb}
+use borrow.Author.Tests.{lt-ltb, le-ltb, eq-eqb, ne-eqb}
 use Rattle.rules.specs.declared.Step.{Step}
 use Rattle.rules.specs.declared.Step.the-variants.{Add, Remove, Query, Send, Merge, Deliver, Again, Lose}
 use Rattle.rules.specs.declared.Named.{Named}
 use Rattle.rules.specs.declared.Named.the-variants.{Is, NoStep}
 use Rattle.rules.specs.declared.Reported.{Reported}
 use Rattle.rules.specs.Runs.{State, firstGiven, refusalOf, valueOf}
-use Rattle.rules.specs.Text.{ascii}
-use Rattle.rules.specs.Number.{digits}
-use Rattle.rules.specs.NumberLaws.{by-test}
+use Rattle.rules.specs.NumberLaws.{below, by-test}
 use Rattle.rules.specs.StepLines.{lineOf, stepOf}
 use Rattle.rules.specs.StepLineLaws.{query-line, read-step}
 use Rattle.rules.specs.Determined.{one-result}
-use Rattle.rules.specs.Reports.{reportRun, reportStart, lineEnd, refusedLine, queryLine, endLines, acceptedLine, lineBy, saidOf, stateOf, lastPiece, reportFrom, reportOf, inputLimit, reportRoom, reportRefusal, reportFor, Told}
+use Rattle.rules.specs.Reports.{reportRun, reportStart, lineEnd, refusedLine, endLines, acceptedLine, lineBy, saidOf, stateOf, lastPiece, reportFrom, reportOf, inputLimit, reportRoom, reportRefusal, reportFor, Told}
 use Rattle.rules.specs.ReportParts.{refusal-within, refused-within, query-within, end-within}
 
 -- ---- how a report goes on, by the next byte of the input
@@ -106,16 +103,37 @@ pub report-fits : (input : List ℕ) → length input ≤ inputLimit → length 
 unfolding reportOf
 report-fits input h = let a = report-within 1 reportStart [] input (omega arith) in omega arith
 
--- so a call that is not refused has the room for what it writes, and a refused one writes nothing
-pub told-fits : (input before : List ℕ) → length (reportFor input (length before)) ≤ length before
-unfolding reportFor reportRefusal firstGiven
-told-fits input before = go (ltb inputLimit (length input)) (ltb (length before) (reportRoom (length input))) refl refl
-  where
-    go : (over short : Bool) → ltb inputLimit (length input) ≡ over → ltb (length before) (reportRoom (length input)) ≡ short
-        → length (cond (eqb (cond over 12 (cond short 13 0)) 0) (reportOf input) []) ≤ length before
-    go true short p q = omega arith
-    go false true p q = omega arith
-    go false false p q = omega (arith, report-fits input (ltb-false inputLimit (length input) p), ltb-false (length before) (reportRoom (length input)) q)
+-- ---- the two refusals, in their order, and what is told then
+pub report-over : (n room : ℕ) → inputLimit < n → reportRefusal n room ≡ 12
+unfolding reportRefusal firstGiven
+report-over n room h = rw (lt-ltb inputLimit n h)
+
+pub report-short : (n room : ℕ) → n ≤ inputLimit → room < reportRoom n → reportRefusal n room ≡ 13
+unfolding reportRefusal firstGiven
+report-short n room h k = rw (le-ltb inputLimit n h, lt-ltb room (reportRoom n) k)
+
+pub report-taken : (n room : ℕ) → n ≤ inputLimit → reportRoom n ≤ room → reportRefusal n room ≡ 0
+unfolding reportRefusal firstGiven
+report-taken n room h k = rw (le-ltb inputLimit n h, le-ltb room (reportRoom n) k)
+
+-- a refused call writes nothing
+pub told-refused : (input : List ℕ) (room r : ℕ) → reportRefusal (length input) room ≡ suc r → reportFor input room ≡ []
+unfolding reportFor
+told-refused input room r h = rw (h, ne-eqb (suc r) 0 (λ z. omega arith))
+
+-- any other writes the whole report
+pub told-taken : (input : List ℕ) (room : ℕ) → reportRefusal (length input) room ≡ 0 → reportFor input room ≡ reportOf input
+unfolding reportFor
+told-taken input room h = rw h
+
+-- and has the room for it
+pub told-fits : (input : List ℕ) (room : ℕ) → length (reportFor input room) ≤ room
+told-fits input room =
+    below inputLimit (length input)
+    (λ over. rw (told-refused input room 11 (report-over (length input) room over)) (omega arith))
+    (λ fits. below room (reportRoom (length input))
+    (λ short. rw (told-refused input room 12 (report-short (length input) room fits short)) (omega arith))
+    (λ wide. rw (told-taken input room (report-taken (length input) room fits wide)) (omega (arith, report-fits input fits))))
 
 -- ---- "two results which both satisfy it are equal": the contract of `report` leaves one answer and one buffer
 same-report : (r r′ : Reported) → r .refusal ≡ r′ .refusal → r .written ≡ r′ .written → r ≡ r′

@@ -2,11 +2,9 @@
 -- Assumes nothing.
 use Prim.Native.Nat.{ℕ, zero, suc, _+_, _*_, _/_, _^_, _≤_, _<_}
 use native.Mathlib.Omega.{arith}
-use mathlib.Core.Path.{_≡_, refl, sym, ap, _∙_}
 use mathlib.Core.Bool.{Bool, true, false, cond}
-use mathlib.Core.List.{List, [], _∷_, _++_}
-use lib.ListN.{length, take, drop, length-append, length-take}
-use lib.Dec.{eqb}
+use mathlib.Core.List.{List, [], _∷_}
+use lib.ListN.{length, drop, length-append, length-take}
 use Rattle.rules.specs.declared.Run.{Run}
 use Rattle.rules.specs.declared.Ledger.{Ledger}
 use Rattle.rules.specs.declared.Sight.{Sight}
@@ -16,10 +14,9 @@ use Rattle.rules.specs.Lengths.{listed}
 use Rattle.rules.specs.Table.{held}
 use Rattle.rules.specs.Parcels.{waiting}
 use Rattle.rules.specs.Runs.{State, width, tableAt, sightOf, Test, _when_, firstGiven, stepTests, refusalIn, refusalOf}
-use Rattle.rules.specs.Text.{ascii}
 use Rattle.rules.specs.Number.{digits}
 use Rattle.rules.specs.NumberLaws.{below, one-digit, more-digits, digits-length}
-use Rattle.rules.specs.Reports.{reportRun, lineEnd, refusedLine, queryLine, countLine, ledgerLines, siteLine, siteLines, endLines}
+use Rattle.rules.specs.Reports.{reportRun, refusedLine, queryLine, ledgerLines, siteLine, siteLines, endLines}
 
 -- ---- a number below 10 ^ k has at most k digits
 pub digits-within : (k n : ℕ) → n < 10 ^ suc k → n < 2 ^ 64 → length (digits n) ≤ suc k

@@ -1,46 +1,26 @@
 -- The report of the lines of some steps: it is made of what each step says in its turn, and the end. A text that no step has is refused.
 -- Assumes nothing.
-use Prim.Native.Nat.{ℕ, zero, suc, _+_, _/_, _%_, _≤_, _<_}
+use Prim.Native.Nat.{ℕ, zero, suc, _+_, _/_, _%_, _^_, _<_}
 use native.Mathlib.Omega.{arith}
-use mathlib.Core.Path.{_≡_, refl, sym, ap, _∙_}
+use mathlib.Core.Path.{_≡_, refl, ap, _∙_}
 use mathlib.Core.Bool.{Bool, true, false, _&&_, not}
-use mathlib.Core.List.{List, [], _∷_, _++_, append-assoc, append-nil}
+use mathlib.Core.List.{List, [], _∷_, _++_}
 use lib.Dec.{ltb, eqb}
-use borrow.Author.Tests.{eqb-false, ne-eqb, not-true}
+use borrow.Author.Tests.{ltb-true, ne-eqb}
 use Rattle.rules.specs.declared.Step.{Step}
 use Rattle.rules.specs.declared.Step.the-variants.{Add, Remove, Query, Send, Merge, Deliver, Again, Lose}
 use Rattle.rules.specs.declared.Named.{Named}
-use Rattle.rules.specs.declared.Named.the-variants.{Is, NoStep}
+use Rattle.rules.specs.declared.Named.the-variants.{Is}
 use Rattle.rules.specs.View.{parts}
 use Rattle.rules.specs.Runs.{State, after}
-use Rattle.rules.specs.Text.{ascii}
 use Rattle.rules.specs.Number.{upTo, digits}
-use Rattle.rules.specs.NumberLaws.{below, by-test}
+use Rattle.rules.specs.NumberLaws.{by-test}
 use Rattle.rules.specs.Lines.{lead, toName, idName, hasSecond, hasId, field, textOf}
-use Rattle.rules.specs.StepLines.{lineOf, stepOf}
+use Rattle.rules.specs.StepLines.{lineOf}
 use Rattle.rules.specs.StepLineLaws.{Fits, written-step}
-use Rattle.rules.specs.Reports.{reportRun, reportStart, lineEnd, refusedLine, endLines, saidOf, stateOf, reportFrom, reportOf}
-use Rattle.rules.specs.ReportLaws.{report-line, report-byte, report-done}
-
--- ---- a text without a line's end in it
-unfoldable pub unbroken : List ℕ → Bool
-unbroken [] = true
-unbroken (c ∷ cs) = not (eqb c lineEnd) && unbroken cs
-
--- it is one line, or a part of one
-pub report-piece : (n : ℕ) (s : State) (line text rest : List ℕ) → unbroken text ≡ true → reportFrom n s line (text ++ rest) ≡ reportFrom n s (line ++ text) rest
-unfolding unbroken
-report-piece n s line [] rest h = rw (append-nil line)
-report-piece n s line (c ∷ cs) rest h =
-    let a = parts (not (eqb c lineEnd)) (unbroken cs) h in
-    report-byte n s line c (cs ++ rest) (eqb-false c lineEnd (not-true (eqb c lineEnd) (a .0)))
-    ∙ report-piece n s (line ++ (c ∷ [])) cs rest (a .1)
-    ∙ ap (λ (t : List ℕ). reportFrom n s t rest) (append-assoc line (c ∷ []) cs)
-
--- a whole line
-pub report-text : (n : ℕ) (s : State) (text rest : List ℕ) → unbroken text ≡ true
-    → reportFrom n s [] (text ++ (lineEnd ∷ rest)) ≡ saidOf n s (stepOf text) ++ reportFrom (suc n) (stateOf s (stepOf text)) [] rest
-report-text n s text rest h = report-piece n s [] text (lineEnd ∷ rest) h ∙ report-line n s text lineEnd rest refl
+use Rattle.rules.specs.Reports.{reportRun, reportStart, lineEnd, endLines, saidOf, stateOf, reportFrom, reportOf}
+use Rattle.rules.specs.ReportLaws.{report-done}
+use Rattle.rules.specs.ReportPieces.{unbroken, report-text}
 
 -- ---- no line of a step has a line's end in it
 unbroken-both : (xs ys : List ℕ) → unbroken xs ≡ true → unbroken ys ≡ true → unbroken (xs ++ ys) ≡ true
@@ -96,6 +76,40 @@ linesOf (step ∷ steps) = lineOf step ++ (lineEnd ∷ linesOf steps)
 abbrev pub AllFit : List Step → Type 0
 AllFit [] = Unit {0}
 AllFit (step ∷ steps) = Fits step × AllFit steps
+
+-- the test of it, which the checker computes for steps that are written out
+unfoldable pub fits : Step → Bool
+fits (Add k e) = ltb k (2 ^ 64) && ltb e (2 ^ 64)
+fits (Remove k e) = ltb k (2 ^ 64) && ltb e (2 ^ 64)
+fits (Query k e) = ltb k (2 ^ 64) && ltb e (2 ^ 64)
+fits (Send f t e) = ltb f (2 ^ 64) && (ltb t (2 ^ 64) && ltb e (2 ^ 64))
+fits (Merge f t) = ltb f (2 ^ 64) && ltb t (2 ^ 64)
+fits (Deliver i) = ltb i (2 ^ 64)
+fits (Again i) = ltb i (2 ^ 64)
+fits (Lose i) = ltb i (2 ^ 64)
+
+unfoldable pub allFit : List Step → Bool
+allFit [] = true
+allFit (step ∷ steps) = fits step && allFit steps
+
+both-fit : (a b : ℕ) → ltb a (2 ^ 64) && ltb b (2 ^ 64) ≡ true → (a < 2 ^ 64) × (b < 2 ^ 64)
+both-fit a b h = let p = parts (ltb a (2 ^ 64)) _ h in (ltb-true a (2 ^ 64) (p .0), ltb-true b (2 ^ 64) (p .1))
+
+step-fits : (step : Step) → fits step ≡ true → Fits step
+unfolding fits
+step-fits (Add k e) h = both-fit k e h
+step-fits (Remove k e) h = both-fit k e h
+step-fits (Query k e) h = both-fit k e h
+step-fits (Send f t e) h = let p = parts (ltb f (2 ^ 64)) _ h in let q = both-fit t e (p .1) in (ltb-true f (2 ^ 64) (p .0), q .0, q .1)
+step-fits (Merge f t) h = both-fit f t h
+step-fits (Deliver i) h = ltb-true i (2 ^ 64) h
+step-fits (Again i) h = ltb-true i (2 ^ 64) h
+step-fits (Lose i) h = ltb-true i (2 ^ 64) h
+
+pub steps-fit : (steps : List Step) → allFit steps ≡ true → AllFit steps
+unfolding allFit
+steps-fit [] h = tt
+steps-fit (step ∷ steps) h = let p = parts (fits step) _ h in (step-fits step (p .0), steps-fit steps (p .1))
 
 -- what the steps say in their turn, from line n on in a state, and the end
 unfoldable pub stepsFrom : ℕ → State → List Step → List ℕ
