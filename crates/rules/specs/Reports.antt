@@ -133,3 +133,12 @@ pub record Told (input before : List ℕ) (r : Reported) (after : List ℕ) : Ty
 -- ---- what the program prints: the report, or for an input over the limit one line
 unfoldable pub printedOf : List ℕ → List ℕ
 printedOf input = cond (ltb inputLimit (length input)) (ascii "refused=12" ++ (lineEnd ∷ [])) (reportOf input)
+
+-- the same, where the buffer has room for the largest report, else nothing
+unfoldable pub printedFor : List ℕ → ℕ → List ℕ
+printedFor input room = cond (ltb room (reportRoom inputLimit)) [] (printedOf input)
+
+-- the contract of `printed`: how many bytes, and the whole buffer afterwards
+pub record Printed (input before : List ℕ) (n : ℕ) (after : List ℕ) : Type 0 where
+  pub count : n ≡ length (printedFor input (length before))
+  pub bytes : after ≡ put before 0 (printedFor input (length before))
