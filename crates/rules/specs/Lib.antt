@@ -18,6 +18,7 @@ pub mod Sites
 pub mod SlotLaws
 pub mod LedgerLaws
 pub mod RunLaws
+pub mod SiteTables
 pub mod SoundRuns
 pub mod Text
 pub mod Number
