@@ -36,10 +36,10 @@ pub mod Members
 pub mod Cases
 pub mod Pairs
 pub mod Counting
+pub mod Figure4
 pub mod Gains
 pub mod Absorbing
 pub mod Reports
-pub mod Figure4
 pub mod Rising
 pub mod Sample
 pub mod Determined

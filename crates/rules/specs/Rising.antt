@@ -21,8 +21,9 @@ use Rattle.rules.specs.Law.{of-same, of-other, of-unused}
 use Rattle.rules.specs.Merge.{merged-of}
 use Rattle.rules.specs.Runs.{State, tableAt, valueIn, refusalOf, valueOf, after}
 use Rattle.rules.specs.Histories.{among}
-use Rattle.rules.specs.RunLaws.{merge-own}
-use Rattle.rules.specs.Figure4.{lengthIn, accepted-table, merge-table}
+use Rattle.rules.specs.RunLaws.{accepted-sound, merge-own}
+use Rattle.rules.specs.SiteTables.{site-sound}
+use Rattle.rules.specs.Figure4.{lengthIn, merge-table}
 
 -- ---- lists of ids, each above the one before
 -- with the ids lo or above
@@ -155,7 +156,7 @@ module _ (run : Run) (s : State) (f t : ℕ) (ok : refusalOf run s (Merge f t) �
   merge-value =
       let p = merge-own run s f t ok in
       let m = merge-table run s f t ok in
-      rw (m .0) (sym (merged-rises M (tableAt run (s .words) t) (tableAt run (s .words) f) (accepted-table run s (Merge f t) ok t (p .1)) (accepted-table run s (Merge f t) ok f (p .0)) (m .1)))
+      rw (m .0) (sym (merged-rises M (tableAt run (s .words) t) (tableAt run (s .words) f) (site-sound run s (accepted-sound run s (Merge f t) ok) t (p .1)) (site-sound run s (accepted-sound run s (Merge f t) ok) f (p .0)) (m .1)))
 
   -- what it counts: a list of ids, each once, and they are exactly those with a larger length at the second site after the step than before
   pub merge-counts : (valueOf run s (Merge f t) ≡ length (risen (tableAt run (s .words) t) (tableAt run (after run s (Merge f t) .words) t)))
@@ -166,6 +167,6 @@ module _ (run : Run) (s : State) (f t : ℕ) (ok : refusalOf run s (Merge f t) �
       let now = tableAt run (after run s (Merge f t) .words) t in
       let p = merge-own run s f t ok in
       let m = merge-table run s f t ok in
-      let joined = merged-of M before (tableAt run (s .words) f) (accepted-table run s (Merge f t) ok t (p .1)) (accepted-table run s (Merge f t) ok f (p .0)) (m .1) in
+      let joined = merged-of M before (tableAt run (s .words) f) (site-sound run s (accepted-sound run s (Merge f t) ok) t (p .1)) (site-sound run s (accepted-sound run s (Merge f t) ok) f (p .0)) (m .1) in
       let fine : sound M now ≡ true = rw (m .0) (joined .ok) in
       (merge-value ∙ sym (risen-count before now), risen-climbing M before now fine, risen-among M before now fine)

@@ -6,19 +6,16 @@ use native.Mathlib.Omega.{arith}
 use mathlib.Core.Bool.{true, _||_, or-true}
 use mathlib.Core.Path.{_≡_, refl, _∙_}
 use mathlib.Core.List.{List}
-use lib.ListN.{length, getD, set, replicate, length-set, length-replicate, length-take, length-drop, replicate-append-replicate}
+use lib.ListN.{length, getD, set, replicate, length-set, length-replicate, replicate-append-replicate}
 use lib.Seq.{set-out, take-at, drop-at}
-use lib.Dec.{leb}
-use borrow.Author.Tests.{eqb-true, not-false}
+use borrow.Author.Tests.{not-false}
 use Rattle.rules.specs.declared.Run.{Run}
 use Rattle.rules.specs.declared.Parcel.{Parcel}
 use Rattle.rules.specs.declared.Ledger.{Ledger}
-use Rattle.rules.specs.declared.Sight.{Sight}
 use Rattle.rules.specs.declared.Step.{Step}
 use Rattle.rules.specs.declared.Step.the-variants.{Add, Remove, Query, Send, Merge, Deliver, Again, Lose}
 use Rattle.rules.specs.Lengths.{M, afterAdd, join}
 use Rattle.rules.specs.Table.{sound, unused, soundFrom, lengthOf}
-use Rattle.rules.specs.View.{parts}
 use Rattle.rules.specs.Law.{of-most}
 use Rattle.rules.specs.Operations.{addTable, absorbTable, removeTable, mergeTable}
 use Rattle.rules.specs.OperationLaws.{add-sound, absorb-sound, raise-length, remove-sound, remove-length, merge-sound, merge-length}
