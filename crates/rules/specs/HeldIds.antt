@@ -8,18 +8,18 @@ use mathlib.Core.Bool.{Bool, true, false, _||_, not, cond}
 use mathlib.Core.Path.{_≡_, refl, sym, ap, _∙_}
 use mathlib.Core.List.{List, [], _∷_, _++_}
 use lib.ListN.{length}
-use lib.Dec.{eqb}
-use borrow.Author.Tests.{le-leb, eqb-true, eqb-false, eq-eqb, ne-eqb, not-true}
+use lib.Dec.{eqb, ltb}
+use borrow.Author.Tests.{lt-ltb, eqb-true, eqb-false, ne-eqb, not-true}
 use Rattle.rules.specs.LengthLaws.{remove-none}
 use Rattle.rules.specs.Lengths.{afterRemove}
 use Rattle.rules.specs.Table.{sound, lengthOf, held, heldWith, newIds, heldMerged}
-use Rattle.rules.specs.Order.{Side, Side.below, Side.same, Side.above, side}
-use Rattle.rules.specs.View.{Unused, Unused.none, Unused.pair, Sound, Sound.rest, Sound.used, seen}
-use Rattle.rules.specs.Law.{of-same, of-other, of-unused}
+use Rattle.rules.specs.View.{Unused.none, Unused.pair, Sound, Sound.rest, Sound.used, seen}
 use Rattle.rules.specs.Operations.{raiseRefusal, raiseTable, removeRefusal, removeTable, mergeRefusal, mergeTable}
 use Rattle.rules.specs.OperationLaws.{raise-sound, raise-of, remove-sound, remove-of, merge-sound, merge-of}
 use Rattle.rules.specs.Histories.{idsOf, among, distinct}
-use Rattle.rules.specs.Distinct.{AllAmong, among-append, among-left, among-right, distinct-right, rising, rising-above, rising-distinct}
+use Rattle.rules.specs.Climbing.{Climbing, among-below, climbing-distinct}
+use Rattle.rules.specs.Rising.{risen, risen-climbs, risen-among}
+use Rattle.rules.specs.Distinct.{AllAmong, among-append, among-left, among-right, distinct-right}
 
 -- ---- the ids of a table
 -- they are as many as its entries
@@ -30,42 +30,30 @@ ids-many (w ∷ []) = refl
 ids-many (e ∷ zero ∷ t) = refl
 ids-many (e ∷ suc n ∷ t) = ap suc (ids-many t)
 
-ids-unused : {t : List ℕ} → Unused t → idsOf t ≡ []
-unfolding idsOf
-ids-unused none = refl
-ids-unused (pair z) = refl
+-- they are the ids whose length is above none, as where a table comes into one that holds nothing
+ids-risen : (t : List ℕ) → idsOf t ≡ risen [] t
+unfolding idsOf risen lengthOf
+ids-risen [] = refl
+ids-risen (w ∷ []) = refl
+ids-risen (e ∷ zero ∷ t) = refl
+ids-risen (e ∷ suc n ∷ t) = rw (lt-ltb 0 (suc n) (omega arith)) (ap (λ (ids : List ℕ). e ∷ ids) (ids-risen t))
 
-ids-rise : {most lo : ℕ} {t : List ℕ} → Sound most lo t → rising lo (idsOf t) ≡ true
-unfolding idsOf rising
-ids-rise (rest z) = rw (ids-unused z)
-ids-rise (used {e = e} {n = n} {t = t} l m s) = rw (le-leb _ e l) (ids-rise s)
+ids-climb : {most lo : ℕ} {t : List ℕ} → Sound most lo t → Climbing lo (idsOf t)
+ids-climb {t = t} s = rw (ids-risen t) (risen-climbs s [])
 
--- and they hold the ids that have a length
-ids-seen : {most lo : ℕ} {t : List ℕ} → Sound most lo t → (x : ℕ) → among x (idsOf t) ≡ not (eqb (lengthOf t x) 0)
-unfolding idsOf among
-ids-seen (rest z) x = rw (ids-unused z, of-unused z x)
-ids-seen {most} {lo} (used {e = e} {n = n} {t = t} l m s) x = go (side x e) (ids-seen s x)
-  where
-    other : (x ≡ e → ⊥) → among x (idsOf t) ≡ not (eqb (lengthOf t x) 0) → eqb x e || among x (idsOf t) ≡ not (eqb (lengthOf (e ∷ suc n ∷ t) x) 0)
-    other ne ih = rw (ne-eqb x e ne, of-other e (suc n) t x (λ q. ne (sym q))) ih
-
-    go : Side x e → among x (idsOf t) ≡ not (eqb (lengthOf t x) 0) → eqb x e || among x (idsOf t) ≡ not (eqb (lengthOf (e ∷ suc n ∷ t) x) 0)
-    go (below p) ih = other (omega arith) ih
-    go (above p) ih = other (omega arith) ih
-    go (same p) ih = rw (p, eq-eqb e e refl, of-same e (suc n) t, ne-eqb (suc n) 0 (omega arith))
+above-none : (n : ℕ) → ltb 0 n ≡ not (eqb n 0)
+above-none zero = refl
+above-none (suc n) = rw (lt-ltb 0 (suc n) (omega arith), ne-eqb (suc n) 0 (omega arith))
 
 module _ (most : ℕ) (t : List ℕ) (ok : sound most t ≡ true) where
-  -- the ids of a sound table rise strictly
-  pub ids-rising : rising 0 (idsOf t) ≡ true
-  ids-rising = ids-rise (seen {most = most} {lo = 0} ok)
-
-  -- so there are as many different ids as entries
+  -- each is above the one before, so there are as many different ids as entries
   pub ids-distinct : distinct (idsOf t) ≡ held t
-  ids-distinct = rising-distinct 0 (idsOf t) ids-rising ∙ ids-many t
+  ids-distinct = climbing-distinct (ids-climb (seen {most = most} {lo = 0} ok)) ∙ ids-many t
 
   -- an id is among them exactly where it has a length above 0
   pub ids-among : (x : ℕ) → among x (idsOf t) ≡ not (eqb (lengthOf t x) 0)
-  ids-among x = ids-seen (seen {most = most} {lo = 0} ok) x
+  unfolding lengthOf
+  ids-among x = rw (ids-risen t) (risen-among most [] t ok x) ∙ above-none (lengthOf t x)
 
   -- one that has a length is among them
   pub held-among : (x : ℕ) → 1 ≤ lengthOf t x → among x (idsOf t) ≡ true
@@ -92,7 +80,7 @@ unfolding newIds idsOf distinct
 needed-by {most} (rest none) t ok = add-zero (held t) ∙ sym (ids-distinct most t ok)
 needed-by {most} (rest (pair z)) t ok = add-zero (held t) ∙ sym (ids-distinct most t ok)
 needed-by {most} (used {e = e} {n = n} {t = s} l m r) t ok =
-    rw (among-append e (idsOf s) (idsOf t), rising-above (suc e) (idsOf s) (ids-rise r) e (le-refl (suc e)), ids-among most t ok e) (go (eqb (lengthOf t e) 0) (needed-by r t ok))
+    rw (among-append e (idsOf s) (idsOf t), among-below (ids-climb r) e (le-refl (suc e)), ids-among most t ok e) (go (eqb (lengthOf t e) 0) (needed-by r t ok))
   where
     go : (b : Bool) → held t + newIds t s ≡ distinct (idsOf s ++ idsOf t)
         → held t + cond b (suc (newIds t s)) (newIds t s) ≡ cond (not b) (distinct (idsOf s ++ idsOf t)) (suc (distinct (idsOf s ++ idsOf t)))

@@ -40,6 +40,7 @@ pub mod Figure4
 pub mod Gains
 pub mod Absorbing
 pub mod Reports
+pub mod Climbing
 pub mod Rising
 pub mod Sample
 pub mod Determined
