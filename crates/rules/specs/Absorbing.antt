@@ -1,23 +1,24 @@
 -- What a site holds is the largest that it has absorbed: one step at a time, over a list of steps, and from fresh. So lengths never fall, and
 -- two sites that absorbed the same pairs hold equal tables.
 -- Assumes nothing.
-use Prim.Native.Nat.{ℕ, zero, suc, _*_, _≤_, _<_}
+use Prim.Native.Nat.{ℕ, zero, suc, _≤_, _<_}
 use native.Mathlib.Omega.{arith}
-use mathlib.Core.Bool.{Bool, true, false, _&&_, cond}
+use mathlib.Core.Bool.{true, _&&_, cond}
 use mathlib.Core.Path.{_≡_, refl, sym, _∙_}
 use mathlib.Core.List.{List, [], _∷_}
-use lib.ListN.{length, take, drop, replicate}
+use lib.ListN.{length}
 use lib.Dec.{eqb}
 use borrow.Author.Tests.{ne-eqb}
 use Rattle.rules.specs.declared.Run.{Run}
 use Rattle.rules.specs.declared.Step.{Step}
 use Rattle.rules.specs.Lengths.{M, join}
 use Rattle.rules.specs.Table.{lengthOf}
-use Rattle.rules.specs.Law.{law}
-use Rattle.rules.specs.Runs.{State, width, tableAt, sightOf, refusalOf, after, freshRefusal, afterFresh}
+use Rattle.rules.specs.Law.{law, of-unused}
+use Rattle.rules.specs.Runs.{State, tableAt, sightOf, refusalOf, after, freshRefusal, afterFresh}
 use Rattle.rules.specs.Histories.{ran, siteIn, given, absorbedIn, absorbed, largest, samePairs}
 use Rattle.rules.specs.RunLaws.{refused-stays}
 use Rattle.rules.specs.SiteTables.{site-sound, site-length}
+use Rattle.rules.specs.SoundRuns.{fresh-unused}
 use Rattle.rules.specs.Pairs.{largest-append, same-largest}
 use Rattle.rules.specs.Counting.{fresh-ran-sound}
 use Rattle.rules.specs.Gains.{gains, nothing-gained}
@@ -53,28 +54,10 @@ pub ran-never-falls : (run : Run) (s : State) (steps : List Step) (k e : ℕ) �
 ran-never-falls run s steps k e = omega (arith, ran-absorbs run s steps k e)
 
 -- ---- from fresh
--- zeros hold nothing, wherever a table is cut out of them
-either-zero : (b : Bool) (n : ℕ) → n ≡ 0 → cond b 0 n ≡ 0
-either-zero true n h = refl
-either-zero false n h = h
-
-zeros-hold : (w n x : ℕ) → lengthOf (take w (replicate n 0)) x ≡ 0
-unfolding lengthOf
-zeros-hold zero n x = refl
-zeros-hold (suc w) zero x = refl
-zeros-hold (suc zero) (suc n) x = refl
-zeros-hold (suc (suc w)) (suc zero) x = refl
-zeros-hold (suc (suc w)) (suc (suc n)) x = either-zero (eqb 0 x) _ (zeros-hold w n x)
-
-zeros-hold-from : (i w n x : ℕ) → lengthOf (take w (drop i (replicate n 0))) x ≡ 0
-zeros-hold-from zero w n x = zeros-hold w n x
-zeros-hold-from (suc i) w zero x = zeros-hold w zero x
-zeros-hold-from (suc i) w (suc n) x = zeros-hold-from i w n x
-
 module _ (run : Run) (s : State) (fresh : freshRefusal run (length (s .words)) (length (s .slots)) ≡ 0) where
-  fresh-holds : (k e : ℕ) → lengthOf (tableAt run (afterFresh run s .words) k) e ≡ 0
-  unfolding afterFresh tableAt
-  fresh-holds k e = rw fresh (zeros-hold-from (k * width run) (width run) (length (s .words)) e)
+  -- a site of a fresh run holds nothing
+  pub fresh-holds : (k e : ℕ) → lengthOf (tableAt run (afterFresh run s .words) k) e ≡ 0
+  fresh-holds k e = of-unused (fresh-unused run s fresh k) e
 
   -- "For each site and id, the length held is the largest it has absorbed .., or zero if none."
   pub held-is-largest : (steps : List Step) (k e : ℕ) → lengthOf (tableAt run (ran run (afterFresh run s) steps .words) k) e ≡ largest (absorbed run (afterFresh run s) k steps) e

@@ -11,7 +11,7 @@ use borrow.Author.Tests.{eq-eqb, ne-eqb}
 use Rattle.rules.specs.Order.{Side, Side.below, Side.same, Side.above, side}
 use Rattle.rules.specs.Histories.{among, distinct}
 
--- with the ids lo or above
+-- the first of them lo or above
 pub data Climbing : ℕ → List ℕ → Type 0 where
   end : {lo : ℕ} → Climbing lo []
   next : {lo e : ℕ} {ids : List ℕ} → lo ≤ e → Climbing (suc e) ids → Climbing lo (e ∷ ids)

@@ -15,6 +15,7 @@ pub mod Ledgers
 pub mod Runs
 pub mod Histories
 pub mod Sites
+pub mod Zeros
 pub mod SlotLaws
 pub mod LedgerLaws
 pub mod RunLaws

@@ -1,13 +1,13 @@
 -- A sound state stays sound: a fresh run is sound, every step keeps it so, the sizes stay, and a step changes no table but its own.
 -- Assumes nothing.
-use Prim.Native.Nat.{ℕ, zero, suc, _+_, _*_, _<_}
-use native.Mathlib.Nat.{suc-mul, add-comm, le-refl}
+use Prim.Native.Nat.{ℕ, suc, _<_}
+use native.Mathlib.Nat.{le-refl}
 use native.Mathlib.Omega.{arith}
 use mathlib.Core.Bool.{true, _||_, or-true}
-use mathlib.Core.Path.{_≡_, refl, _∙_}
+use mathlib.Core.Path.{_≡_, refl}
 use mathlib.Core.List.{List}
-use lib.ListN.{length, getD, set, replicate, length-set, length-replicate, replicate-append-replicate}
-use lib.Seq.{set-out, take-at, drop-at}
+use lib.ListN.{length, getD, set, length-set, length-replicate}
+use lib.Seq.{set-out}
 use borrow.Author.Tests.{not-false}
 use Rattle.rules.specs.declared.Run.{Run}
 use Rattle.rules.specs.declared.Parcel.{Parcel}
@@ -15,8 +15,10 @@ use Rattle.rules.specs.declared.Ledger.{Ledger}
 use Rattle.rules.specs.declared.Step.{Step}
 use Rattle.rules.specs.declared.Step.the-variants.{Add, Remove, Query, Send, Merge, Deliver, Again, Lose}
 use Rattle.rules.specs.Lengths.{M, afterAdd, join}
-use Rattle.rules.specs.Table.{sound, unused, soundFrom, lengthOf}
+use Rattle.rules.specs.Table.{sound, lengthOf}
+use Rattle.rules.specs.View.{Unused}
 use Rattle.rules.specs.Law.{of-most}
+use Rattle.rules.specs.Zeros.{zeros-unused, zeros-sound}
 use Rattle.rules.specs.Operations.{addTable, absorbTable, removeTable, mergeTable}
 use Rattle.rules.specs.OperationLaws.{add-sound, absorb-sound, raise-length, remove-sound, remove-length, merge-sound, merge-length}
 use Rattle.rules.specs.Parcels.{noParcel, isFree, isOccupied, slotsSound, waiting, lowestFree}
@@ -30,37 +32,6 @@ pub use Rattle.rules.specs.SiteTables.{words-long}
 use Rattle.rules.specs.SiteTables.{site-sound, put-elsewhere, put-as-many, put-sound}
 
 -- ---- a fresh run
--- zeros are unused places
-zeros-unused : (c : ℕ) → unused (replicate (2 * c) 0) ≡ true
-unfolding unused
-zeros-unused zero = refl
-zeros-unused (suc c) =
-    let e : 2 * suc c ≡ suc (suc (2 * c)) = omega arith in
-    rw e (zeros-unused c)
-
--- so a table of zeros is sound
-zeros-sound : (most c : ℕ) → sound most (replicate (2 * c) 0) ≡ true
-unfolding soundFrom unused
-zeros-sound most zero = refl
-zeros-sound most (suc c) =
-    let e : 2 * suc c ≡ suc (suc (2 * c)) = omega arith in
-    rw e (zeros-unused c)
-
--- and so are all tables of zeros
-zeros-tables : (most c n : ℕ) → tablesSound most (2 * c) n (replicate (n * (2 * c)) 0) ≡ true
-unfolding tablesSound
-zeros-tables most c zero = refl
-zeros-tables most c (suc n) =
-    let e : suc n * (2 * c) ≡ 2 * c + n * (2 * c) = suc-mul n (2 * c) ∙ add-comm (n * (2 * c)) (2 * c) in
-    rw (
-      e,
-      ← replicate-append-replicate {A = ℕ} (2 * c) (n * (2 * c)) 0,
-      take-at (replicate (2 * c) 0) (replicate (n * (2 * c)) 0) (2 * c) (length-replicate {A = ℕ} (2 * c) 0),
-      drop-at (replicate (2 * c) 0) (replicate (n * (2 * c)) 0) (2 * c) (length-replicate {A = ℕ} (2 * c) 0),
-      zeros-sound most c,
-    )
-    (zeros-tables most c n)
-
 -- an empty ledger balances where nothing waits
 empty-sound : (most : ℕ) → ledgerSound most 0 emptyLedger ≡ true
 empty-sound most = balanced-sound most 0 emptyLedger (omega arith)
@@ -73,7 +44,7 @@ fresh-sizes run s h = not-false _ (pass 0 _ _ h .0)
 empty-state-sound : (run : Run) (s : State) → sizesRight run (length (s .words)) (length (s .slots)) ≡ true → StateSound run (empty s)
 empty-state-sound run s h = (
   rw (length-replicate {A = ℕ} (length (s .words)) 0, cleared-length (s .slots)) h,
-  rw (words-long run _ _ h) (zeros-tables M (run .capacity) (run .sites)),
+  rw (words-long run _ _ h) (zeros-sound (run .capacity) (run .sites) M),
   cleared-sound M (run .sites) (s .slots),
   rw (cleared-waiting (s .slots)) (empty-sound M),
 )
@@ -82,6 +53,11 @@ empty-state-sound run s h = (
 pub fresh-sound : (run : Run) (s : State) → freshRefusal run (length (s .words)) (length (s .slots)) ≡ 0 → StateSound run (afterFresh run s)
 unfolding afterFresh
 fresh-sound run s h = rw h (empty-state-sound run s (fresh-sizes run s h))
+
+-- and no place of its tables is in use
+pub fresh-unused : (run : Run) (s : State) → freshRefusal run (length (s .words)) (length (s .slots)) ≡ 0 → (k : ℕ) → Unused (tableAt run (afterFresh run s .words) k)
+unfolding afterFresh tableAt
+fresh-unused run s h k = rw (h, words-long run _ _ (fresh-sizes run s h)) (zeros-unused (run .capacity) (run .sites) k)
 
 -- ---- the words after an accepted step
 -- the words are as many, every table of them is sound, and the tables of the other sites are as they were
