@@ -1,25 +1,20 @@
--- The ids of a table: as many different ones as it has entries, what each operation makes of them, and the entries that an operation needs,
--- counted as different ids.
+-- The ids of a table: as many different ones as it has entries, and the entries that an operation needs, counted as different ids.
 -- Assumes nothing.
 use Prim.Native.Nat.{ℕ, zero, suc, _+_, _≤_}
 use native.Mathlib.Nat.{le-refl, add-zero}
 use native.Mathlib.Omega.{arith}
-use mathlib.Core.Bool.{Bool, true, false, _||_, not, cond}
+use mathlib.Core.Bool.{Bool, true, false, not, cond}
 use mathlib.Core.Path.{_≡_, refl, sym, ap, _∙_}
 use mathlib.Core.List.{List, [], _∷_, _++_}
 use lib.ListN.{length}
 use lib.Dec.{eqb, ltb}
-use borrow.Author.Tests.{lt-ltb, eqb-true, eqb-false, ne-eqb, not-true}
-use Rattle.rules.specs.LengthLaws.{remove-none}
-use Rattle.rules.specs.Lengths.{afterRemove}
+use borrow.Author.Tests.{lt-ltb, eqb-false, ne-eqb, not-true}
 use Rattle.rules.specs.Table.{sound, lengthOf, held, heldWith, newIds, heldMerged}
-use Rattle.rules.specs.View.{Unused.none, Unused.pair, Sound, Sound.rest, Sound.used, seen}
-use Rattle.rules.specs.Operations.{raiseRefusal, raiseTable, removeRefusal, removeTable, mergeRefusal, mergeTable}
-use Rattle.rules.specs.OperationLaws.{raise-sound, raise-of, remove-sound, remove-of, merge-sound, merge-of}
+use Rattle.rules.specs.View.{Unused, Unused.none, Unused.pair, Sound, Sound.rest, Sound.used, seen}
 use Rattle.rules.specs.Histories.{idsOf, among, distinct}
 use Rattle.rules.specs.Climbing.{Climbing, among-below, climbing-distinct}
 use Rattle.rules.specs.Rising.{risen, risen-climbs, risen-among}
-use Rattle.rules.specs.Distinct.{AllAmong, among-append, among-left, among-right, distinct-right}
+use Rattle.rules.specs.Distinct.{among-append, distinct-right}
 
 -- ---- the ids of a table
 -- they are as many as its entries
@@ -29,6 +24,12 @@ ids-many [] = refl
 ids-many (w ∷ []) = refl
 ids-many (e ∷ zero ∷ t) = refl
 ids-many (e ∷ suc n ∷ t) = ap suc (ids-many t)
+
+-- an unused table has none
+pub ids-unused : {t : List ℕ} → Unused t → idsOf t ≡ []
+unfolding idsOf
+ids-unused none = refl
+ids-unused (pair z) = refl
 
 -- they are the ids whose length is above none, as where a table comes into one that holds nothing
 ids-risen : (t : List ℕ) → idsOf t ≡ risen [] t
@@ -90,53 +91,3 @@ needed-by {most} (used {e = e} {n = n} {t = s} l m r) t ok =
 -- the entries that a merge needs are the different ids of both tables
 pub needed-for-all : (most : ℕ) (t s : List ℕ) → sound most t ≡ true → sound most s ≡ true → heldMerged t s ≡ distinct (idsOf s ++ idsOf t)
 needed-for-all most t s ok other = needed-by (seen {most = most} {lo = 0} other) t ok
-
--- ---- the ids after an operation
--- after an id's length is raised: that id and those before
-pub raise-ids : (most : ℕ) (t : List ℕ) (e n : ℕ) → sound most t ≡ true → lengthOf t e ≤ n → n ≤ most → AllAmong (idsOf (raiseTable t e n)) (e ∷ idsOf t)
-unfolding among
-raise-ids most t e n ok low high = go (raiseRefusal t e n) refl
-  where
-    go : (r : ℕ) → raiseRefusal t e n ≡ r → AllAmong (idsOf (raiseTable t e n)) (e ∷ idsOf t)
-    go (suc r) a x h = unfold raiseTable in among-right (e ∷ []) (idsOf t) x (rw a at h)
-    go zero a x h = by (eqb x e) refl
-      where
-        by : (b : Bool) → eqb x e ≡ b → b || among x (idsOf t) ≡ true
-        by true q = refl
-        by false q =
-            let ne : e ≡ x → ⊥ = λ p. eqb-false x e q (sym p) in
-            let as-before : lengthOf (raiseTable t e n) x ≡ lengthOf t x = raise-of most t e n ok low a x ∙ (rw (ne-eqb e x ne)) in
-            held-among most t ok x (rw (← as-before) (among-held most (raiseTable t e n) (raise-sound most t e n ok high) x h))
-
--- after a remove: those before, since "no entry is made"
-pub remove-ids : (most : ℕ) (t : List ℕ) (e : ℕ) → sound most t ≡ true → AllAmong (idsOf (removeTable most t e)) (idsOf t)
-remove-ids most t e ok = go (removeRefusal most t e) refl
-  where
-    none : (x : ℕ) → removeRefusal most t e ≡ 0 → lengthOf t x ≡ 0 → lengthOf (removeTable most t e) x ≡ 0
-    none x a z = remove-of most t e ok a x ∙ by (eqb e x) refl
-      where
-        by : (b : Bool) → eqb e x ≡ b → cond b (afterRemove (lengthOf t e)) (lengthOf t x) ≡ 0
-        by true q = rw (eqb-true e x q, z, remove-none)
-        by false q = z
-
-    go : (r : ℕ) → removeRefusal most t e ≡ r → AllAmong (idsOf (removeTable most t e)) (idsOf t)
-    go (suc r) a x h = unfold removeTable in rw a at h
-    go zero a x h = by (lengthOf t x) refl
-      where
-        by : (k : ℕ) → lengthOf t x ≡ k → among x (idsOf t) ≡ true
-        by zero z = absurd (omega (arith, none x a z, among-held most (removeTable most t e) (remove-sound most t e ok) x h))
-        by (suc k) z = held-among most t ok x (omega arith)
-
--- after a merge: those of both tables
-pub merge-ids : (most : ℕ) (t s : List ℕ) → sound most t ≡ true → sound most s ≡ true → AllAmong (idsOf (mergeTable t s)) (idsOf s ++ idsOf t)
-merge-ids most t s ok other = go (mergeRefusal t s) refl
-  where
-    go : (r : ℕ) → mergeRefusal t s ≡ r → AllAmong (idsOf (mergeTable t s)) (idsOf s ++ idsOf t)
-    go (suc r) a x h = unfold mergeTable in among-right (idsOf s) (idsOf t) x (rw a at h)
-    go zero a x h = by (lengthOf s x) refl
-      where
-        by : (k : ℕ) → lengthOf s x ≡ k → among x (idsOf s ++ idsOf t) ≡ true
-        by zero z =
-            let some : 1 ≤ lengthOf (mergeTable t s) x = among-held most (mergeTable t s) (merge-sound most t s ok other) x h in
-            among-right (idsOf s) (idsOf t) x (held-among most t ok x (omega (arith, some, merge-of most t s ok other a x)))
-        by (suc k) z = among-left (idsOf s) (idsOf t) x (held-among most s other x (omega arith))

@@ -16,11 +16,12 @@ use Rattle.rules.specs.Table.{capacity, lengthOf, heldWith, heldMerged}
 use Rattle.rules.specs.Parcels.{noParcel}
 use Rattle.rules.specs.Runs.{State, tableAt, slotOf, sightOf, Test, _when_, outside, firstGiven, stepTests, refusalOf, freshRefusal, afterFresh}
 use Rattle.rules.specs.RunLaws.{StateSound, sound-judged, neither}
-use Rattle.rules.specs.SoundRuns.{fresh-sound}
+use Rattle.rules.specs.SiteTables.{site-sound, site-capacity}
+use Rattle.rules.specs.Counting.{fresh-ran-sound}
 use Rattle.rules.specs.Histories.{ran, siteIn, idsOf, offer, offeredIn, offered, distinct}
 use Rattle.rules.specs.Distinct.{among-left, among-right, among-either, distinct-grows, distinct-left}
 use Rattle.rules.specs.HeldIds.{needed-for-one, needed-for-all}
-use Rattle.rules.specs.Offering.{site-sound, site-capacity, ran-sound, offered-append, held-ids}
+use Rattle.rules.specs.Offering.{offered-append, held-ids}
 
 -- ---- refusal 8 in a sound state
 -- a test with another number did not refuse
@@ -95,7 +96,7 @@ module _ (run : Run) (s : State) (made : freshRefusal run (length (s .words)) (l
       now = ran run (afterFresh run s) before
 
       ok : StateSound run now
-      ok = ran-sound run (afterFresh run s) before (fresh-sound run s made)
+      ok = fresh-ran-sound run s made before
 
       past-offers : List ℕ
       past-offers = offered run (afterFresh run s) k before
