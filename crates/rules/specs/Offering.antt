@@ -90,13 +90,7 @@ module _ (run : Run) (s : State) (ok : StateSound run s) where
 
 -- ---- a list of steps
 module _ (run : Run) where
-  -- what one list of steps makes, and then another
-  pub ran-append : (s : State) (xs ys : List Step) → ran run s (xs ++ ys) ≡ ran run (ran run s xs) ys
-  unfolding ran
-  ran-append s [] ys = refl
-  ran-append s (x ∷ xs) ys = ran-append (after run s x) xs ys
-
-  -- and what a site is offered by one list of steps, and then by another
+  -- what a site is offered by one list of steps, and then by another
   pub offered-append : (s : State) (k : ℕ) (xs ys : List Step) → offered run s k (xs ++ ys) ≡ offered run s k xs ++ offered run (ran run s xs) k ys
   unfolding ran offered
   offered-append s k [] ys = refl
