@@ -51,6 +51,15 @@ remove-cases n = (λ p. remove-unlisted n (even-listed n p), λ p. remove-listed
 pub listed-cases : (n : ℕ) → (listed n ≡ true → n % 2 ≡ 1) × (n % 2 ≡ 1 → listed n ≡ true)
 listed-cases n = (listed-odd n, odd-listed n)
 
+-- one id's length changed where the site is the one that gains
+one-changed : (f : ℕ → ℕ) (len : ℕ → ℕ) (here : Bool) (x e : ℕ) → cond here (cond (eqb x e) (f (len x)) (len e)) (len e) ≡ cond (here && eqb x e) (f (len e)) (len e)
+one-changed f len true x e = go (eqb x e) refl
+  where
+    go : (b : Bool) → eqb x e ≡ b → cond b (f (len x)) (len e) ≡ cond b (f (len e)) (len e)
+    go true q = rw (eqb-true x e q)
+    go false q = refl
+one-changed f len false x e = refl
+
 -- ---- an accepted step that puts a table in at a site
 module _ (run : Run) (s : State) (step : Step) (ok : refusalOf run s step ≡ 0) (j : ℕ) (u : List ℕ) (p : j < run .sites)
     (size : length u ≡ length (tableAt run (s .words) j)) (put : moved run s step .words ≡ withTable run (s .words) j u) where
@@ -62,22 +71,17 @@ module _ (run : Run) (s : State) (step : Step) (ok : refusalOf run s step ≡ 0)
   put-in = rw words-put (put-there run s (accepted-sound run s step ok) j p u size)
 
   -- so the site has that table's lengths, and every other site has the lengths it had
-  put-of : (k e : ℕ) → lengthIn run (after run s step) k e ≡ cond (eqb j k) (lengthOf u e) (lengthIn run s k e)
-  put-of k e = go (eqb j k) refl
+  put-of : (g : ℕ → ℕ → ℕ) → ((e : ℕ) → lengthOf u e ≡ g j e) → (k e : ℕ) → lengthIn run (after run s step) k e ≡ cond (eqb j k) (g k e) (lengthIn run s k e)
+  put-of g of k e = go (eqb j k) refl
     where
-      go : (b : Bool) → eqb j k ≡ b → lengthIn run (after run s step) k e ≡ cond b (lengthOf u e) (lengthIn run s k e)
-      go true q = rw (← eqb-true j k q, put-in)
+      go : (b : Bool) → eqb j k ≡ b → lengthIn run (after run s step) k e ≡ cond b (g k e) (lengthIn run s k e)
+      go true q = rw (← eqb-true j k q, put-in) (of e)
       go false q = rw (words-put, put-elsewhere run s (accepted-sound run s step ok) j p u size k (λ h. eqb-false j k q (sym h)))
 
--- one id changed at one site
-one-changed : (f : ℕ → ℕ) (len : ℕ → ℕ → ℕ) (j x k e : ℕ)
-    → cond (eqb j k) (cond (eqb x e) (f (len j x)) (len j e)) (len k e) ≡ cond (eqb j k && eqb x e) (f (len k e)) (len k e)
-one-changed f len j x k e = go (eqb j k) refl (eqb x e) refl
-  where
-    go : (b : Bool) → eqb j k ≡ b → (c : Bool) → eqb x e ≡ c → cond b (cond c (f (len j x)) (len j e)) (len k e) ≡ cond (b && c) (f (len k e)) (len k e)
-    go true p true q = rw (eqb-true j k p, eqb-true x e q)
-    go true p false q = rw (eqb-true j k p)
-    go false p c q = refl
+  -- where the table has one id's length changed, that length alone is changed in the run
+  put-one : (f : ℕ → ℕ) (x : ℕ) → ((e : ℕ) → lengthOf u e ≡ cond (eqb x e) (f (lengthIn run s j x)) (lengthIn run s j e)) → (k e : ℕ)
+      → lengthIn run (after run s step) k e ≡ cond (eqb j k && eqb x e) (f (lengthIn run s k e)) (lengthIn run s k e)
+  put-one f x of k e = put-of (λ i y. cond (eqb x y) (f (lengthIn run s i x)) (lengthIn run s i y)) of k e ∙ one-changed f (lengthIn run s k) (eqb j k) x e
 
 module _ (run : Run) (s : State) where
   -- ---- add
@@ -91,13 +95,11 @@ module _ (run : Run) (s : State) where
   pub figure4-add : (j x : ℕ) → refusalOf run s (Add j x) ≡ 0 → (k e : ℕ)
       → lengthIn run (after run s (Add j x)) k e ≡ cond (eqb j k && eqb x e) (afterAdd (lengthIn run s k e)) (lengthIn run s k e)
   unfolding wordsIn
-  figure4-add j x ok k e =
+  figure4-add j x ok =
       let t = tableAt run (s .words) j in
       let p = add-own run s j x ok in
       let fine = site-sound run s (accepted-sound run s (Add j x) ok) j p in
-      put-of run s (Add j x) ok j (addTable t x) p (raise-length M t x (afterAdd (lengthOf t x)) fine) refl k e
-      ∙ ap (λ (n : ℕ). cond (eqb j k) n (lengthIn run s k e)) (add-of M refl t x fine (add-fits j x ok) e)
-      ∙ one-changed afterAdd (lengthIn run s) j x k e
+      put-one run s (Add j x) ok j (addTable t x) p (raise-length M t x (afterAdd (lengthOf t x)) fine) refl afterAdd x (add-of M refl t x fine (add-fits j x ok))
 
   -- the value of an accepted add is the "length after"
   pub figure4-add-value : (j x : ℕ) → refusalOf run s (Add j x) ≡ 0 → valueOf run s (Add j x) ≡ lengthIn run (after run s (Add j x)) j x
@@ -115,13 +117,11 @@ module _ (run : Run) (s : State) where
   pub figure4-remove : (j x : ℕ) → refusalOf run s (Remove j x) ≡ 0 → (k e : ℕ)
       → lengthIn run (after run s (Remove j x)) k e ≡ cond (eqb j k && eqb x e) (afterRemove (lengthIn run s k e)) (lengthIn run s k e)
   unfolding wordsIn
-  figure4-remove j x ok k e =
+  figure4-remove j x ok =
       let t = tableAt run (s .words) j in
       let p = remove-own run s j x ok in
       let fine = site-sound run s (accepted-sound run s (Remove j x) ok) j p in
-      put-of run s (Remove j x) ok j (removeTable M t x) p (remove-length M t x fine) refl k e
-      ∙ ap (λ (n : ℕ). cond (eqb j k) n (lengthIn run s k e)) (remove-of M t x fine (remove-fits j x ok) e)
-      ∙ one-changed afterRemove (lengthIn run s) j x k e
+      put-one run s (Remove j x) ok j (removeTable M t x) p (remove-length M t x fine) refl afterRemove x (remove-of M t x fine (remove-fits j x ok))
 
   -- the value of an accepted remove is the "length after"
   pub figure4-remove-value : (j x : ℕ) → refusalOf run s (Remove j x) ≡ 0 → valueOf run s (Remove j x) ≡ lengthIn run (after run s (Remove j x)) j x
@@ -143,19 +143,14 @@ module _ (run : Run) (s : State) where
   pub figure4-merge : (f t : ℕ) → refusalOf run s (Merge f t) ≡ 0 → (k e : ℕ)
       → lengthIn run (after run s (Merge f t)) k e ≡ cond (eqb t k) (join (lengthIn run s k e) (lengthIn run s f e)) (lengthIn run s k e)
   unfolding wordsIn
-  figure4-merge f t ok k e =
+  figure4-merge f t ok =
       let into = tableAt run (s .words) t in
       let from = tableAt run (s .words) f in
       let p = merge-own run s f t ok in
       let to-fine = site-sound run s (accepted-sound run s (Merge f t) ok) t (p .1) in
       let from-fine = site-sound run s (accepted-sound run s (Merge f t) ok) f (p .0) in
-      put-of run s (Merge f t) ok t (mergeTable into from) (p .1) (merge-length M into from to-fine from-fine) refl k e
-      ∙ ap (λ (n : ℕ). cond (eqb t k) n (lengthIn run s k e)) (merge-of M into from to-fine from-fine (merge-taken f t ok) e)
-      ∙ go (eqb t k) refl
-    where
-      go : (b : Bool) → eqb t k ≡ b → cond b (join (lengthIn run s t e) (lengthIn run s f e)) (lengthIn run s k e) ≡ cond b (join (lengthIn run s k e) (lengthIn run s f e)) (lengthIn run s k e)
-      go true q = rw (eqb-true t k q)
-      go false q = refl
+      put-of run s (Merge f t) ok t (mergeTable into from) (p .1) (merge-length M into from to-fine from-fine) refl
+      (λ i x. join (lengthIn run s i x) (lengthIn run s f x)) (merge-of M into from to-fine from-fine (merge-taken f t ok))
 
   -- the table that an accepted merge leaves at the second site is the two tables merged, and there was room for it
   pub merge-table : (f t : ℕ) → refusalOf run s (Merge f t) ≡ 0
@@ -188,15 +183,13 @@ module _ (run : Run) (s : State) where
       → lengthIn run (after run s (Deliver i)) k e
       ≡ cond (eqb (parcelAt s i .site) k && eqb (parcelAt s i .id) e) (join (lengthIn run s k e) (parcelAt s i .length)) (lengthIn run s k e)
   unfolding wordsIn slotOf
-  figure4-deliver i ok k e =
+  figure4-deliver i ok =
       let q = parcelAt s i in
       let t = tableAt run (s .words) (q .site) in
       let o = occupied-has M (run .sites) q (deliver-own run s i ok .1) in
       let fine = site-sound run s (accepted-sound run s (Deliver i) ok) (q .site) (o .2) in
-      put-of run s (Deliver i) ok (q .site) (absorbTable t (q .id) (q .length)) (o .2) (raise-length M t (q .id) (join (lengthOf t (q .id)) (q .length)) fine)
-      refl k e
-      ∙ ap (λ (n : ℕ). cond (eqb (q .site) k) n (lengthIn run s k e)) (absorb-of M t (q .id) (q .length) (o .1) fine (deliver-fits i ok) e)
-      ∙ one-changed (λ n. join n (q .length)) (lengthIn run s) (q .site) (q .id) k e
+      put-one run s (Deliver i) ok (q .site) (absorbTable t (q .id) (q .length)) (o .2) (raise-length M t (q .id) (join (lengthOf t (q .id)) (q .length)) fine) refl
+      (λ n. join n (q .length)) (q .id) (absorb-of M t (q .id) (q .length) (o .1) fine (deliver-fits i ok))
 
   -- the value of an accepted delivery is the "length after"
   pub figure4-deliver-value : (i : ℕ) → refusalOf run s (Deliver i) ≡ 0
