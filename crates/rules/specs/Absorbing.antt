@@ -56,7 +56,7 @@ ran-never-falls run s steps k e = omega (arith, ran-absorbs run s steps k e)
 -- ---- from fresh
 module _ (run : Run) (s : State) (fresh : freshRefusal run (length (s .words)) (length (s .slots)) ≡ 0) where
   -- a site of a fresh run holds nothing
-  pub fresh-holds : (k e : ℕ) → lengthOf (tableAt run (afterFresh run s .words) k) e ≡ 0
+  fresh-holds : (k e : ℕ) → lengthOf (tableAt run (afterFresh run s .words) k) e ≡ 0
   fresh-holds k e = of-unused (fresh-unused run s fresh k) e
 
   -- "For each site and id, the length held is the largest it has absorbed .., or zero if none."

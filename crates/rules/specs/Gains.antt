@@ -35,7 +35,7 @@ one-gained j k x e n m v h = go (eqb j k) refl (eqb x e) refl
 
 module _ (run : Run) (s : State) (k e : ℕ) where
   -- the length that site k has for the id after the step
-  abbrev Gained : Step → Type 0
+  abbrev pub Gained : Step → Type 0
   Gained step = lengthIn run (after run s step) k e ≡ join (lengthIn run s k e) (largest (cond (eqb (siteIn run (sightOf run s step) step) k) (given run s step) []) e)
 
   none-gained : (step : Step) → changesLengths step ≡ false → given run s step ≡ [] → Gained step
