@@ -1,47 +1,46 @@
 -- What a site holds is the largest that it has absorbed: one step at a time, over a list of steps, and from fresh. So lengths never fall, and
 -- two sites that absorbed the same pairs hold equal tables.
 -- Assumes nothing.
-use Prim.Native.Nat.{ℕ, zero, suc, _*_, _≤_, _<_}
+use Prim.Native.Nat.{ℕ, zero, suc, _≤_, _<_}
 use native.Mathlib.Omega.{arith}
-use mathlib.Core.Bool.{Bool, true, false, _&&_, cond}
+use mathlib.Core.Bool.{true, _&&_, cond}
 use mathlib.Core.Path.{_≡_, refl, sym, _∙_}
 use mathlib.Core.List.{List, [], _∷_}
-use lib.ListN.{length, take, drop, replicate}
+use lib.ListN.{length}
 use lib.Dec.{eqb}
-use borrow.Author.Tests.{eqb-true, eqb-false, ne-eqb}
+use borrow.Author.Tests.{ne-eqb}
 use Rattle.rules.specs.declared.Run.{Run}
 use Rattle.rules.specs.declared.Step.{Step}
 use Rattle.rules.specs.Lengths.{M, join}
 use Rattle.rules.specs.Table.{lengthOf}
-use Rattle.rules.specs.Law.{law}
-use Rattle.rules.specs.Runs.{State, width, tableAt, sightOf, refusalOf, moved, stateBy, after, freshRefusal, afterFresh}
+use Rattle.rules.specs.Law.{law, of-unused}
+use Rattle.rules.specs.Runs.{State, tableAt, sightOf, refusalOf, after, freshRefusal, afterFresh}
 use Rattle.rules.specs.Histories.{ran, siteIn, given, absorbedIn, absorbed, largest, samePairs}
-use Rattle.rules.specs.RunLaws.{accepted-moves}
-use Rattle.rules.specs.SoundRuns.{others-stay}
+use Rattle.rules.specs.RunLaws.{refused-stays}
+use Rattle.rules.specs.SiteTables.{site-sound, site-length}
+use Rattle.rules.specs.SoundRuns.{fresh-unused}
 use Rattle.rules.specs.Pairs.{largest-append, same-largest}
 use Rattle.rules.specs.Counting.{fresh-ran-sound}
-use Rattle.rules.specs.Gains.{table-sound, table-length, gains, nothing-gained}
+use Rattle.rules.specs.Gains.{gains, nothing-gained}
 
 -- ---- one step in any state, and a list of them
 -- "the length held is the largest it has absorbed", one step on: the join of the length before with what the step let the site absorb
 pub step-absorbs : (run : Run) (s : State) (step : Step) (k e : ℕ)
     → lengthOf (tableAt run (after run s step .words) k) e ≡ join (lengthOf (tableAt run (s .words) k) e) (largest (absorbedIn run s k step) e)
-unfolding after absorbedIn
-step-absorbs run s step k e = go (refusalOf run s step) refl (eqb (siteIn run (sightOf run s step) step) k) refl
+unfolding absorbedIn
+step-absorbs run s step k e = go (refusalOf run s step) refl
   where
-    go : (r : ℕ) → refusalOf run s step ≡ r → (b : Bool) → eqb (siteIn run (sightOf run s step) step) k ≡ b
-        → lengthOf (tableAt run (stateBy r s (moved run s step) .words) k) e ≡ join (lengthOf (tableAt run (s .words) k) e) (largest (cond (eqb r 0 && b) (given run s step) []) e)
-    go zero h true q = rw (eqb-true (siteIn run (sightOf run s step) step) k q) at (gains run s step h e)
-    go zero h false q =
-        let same = others-stay run s step k (λ p. eqb-false _ _ q (sym p)) in
-        rw (rw (accepted-moves run s step h) at same) (nothing-gained run s (s .words) k e)
-    go (suc r) h b q = rw (ne-eqb (suc r) 0 (omega arith)) (nothing-gained run s (s .words) k e)
+    go : (r : ℕ) → refusalOf run s step ≡ r
+        → lengthOf (tableAt run (after run s step .words) k) e
+        ≡ join (lengthOf (tableAt run (s .words) k) e) (largest (cond (eqb r 0 && eqb (siteIn run (sightOf run s step) step) k) (given run s step) []) e)
+    go zero h = gains run s k e step h
+    go (suc r) h = rw (refused-stays run s step r h, ne-eqb (suc r) 0 (omega arith)) (nothing-gained (lengthOf (tableAt run (s .words) k) e) e)
 
 -- the same over a list of steps, "refused ones among them"
 pub ran-absorbs : (run : Run) (s : State) (steps : List Step) (k e : ℕ)
     → lengthOf (tableAt run (ran run s steps .words) k) e ≡ join (lengthOf (tableAt run (s .words) k) e) (largest (absorbed run s k steps) e)
 unfolding ran absorbed
-ran-absorbs run s [] k e = nothing-gained run s (s .words) k e
+ran-absorbs run s [] k e = nothing-gained (lengthOf (tableAt run (s .words) k) e) e
 ran-absorbs run s (step ∷ steps) k e =
     omega (arith, ran-absorbs run (after run s step) steps k e, step-absorbs run s step k e, largest-append (absorbedIn run s k step) (absorbed run (after run s step) k steps) e)
 
@@ -55,28 +54,10 @@ pub ran-never-falls : (run : Run) (s : State) (steps : List Step) (k e : ℕ) �
 ran-never-falls run s steps k e = omega (arith, ran-absorbs run s steps k e)
 
 -- ---- from fresh
--- zeros hold nothing, wherever a table is cut out of them
-either-zero : (b : Bool) (n : ℕ) → n ≡ 0 → cond b 0 n ≡ 0
-either-zero true n h = refl
-either-zero false n h = h
-
-zeros-hold : (w n x : ℕ) → lengthOf (take w (replicate n 0)) x ≡ 0
-unfolding lengthOf
-zeros-hold zero n x = refl
-zeros-hold (suc w) zero x = refl
-zeros-hold (suc zero) (suc n) x = refl
-zeros-hold (suc (suc w)) (suc zero) x = refl
-zeros-hold (suc (suc w)) (suc (suc n)) x = either-zero (eqb 0 x) _ (zeros-hold w n x)
-
-zeros-hold-from : (i w n x : ℕ) → lengthOf (take w (drop i (replicate n 0))) x ≡ 0
-zeros-hold-from zero w n x = zeros-hold w n x
-zeros-hold-from (suc i) w zero x = zeros-hold w zero x
-zeros-hold-from (suc i) w (suc n) x = zeros-hold-from i w n x
-
 module _ (run : Run) (s : State) (fresh : freshRefusal run (length (s .words)) (length (s .slots)) ≡ 0) where
+  -- a site of a fresh run holds nothing
   fresh-holds : (k e : ℕ) → lengthOf (tableAt run (afterFresh run s .words) k) e ≡ 0
-  unfolding afterFresh tableAt
-  fresh-holds k e = rw fresh (zeros-hold-from (k * width run) (width run) (length (s .words)) e)
+  fresh-holds k e = of-unused (fresh-unused run s fresh k) e
 
   -- "For each site and id, the length held is the largest it has absorbed .., or zero if none."
   pub held-is-largest : (steps : List Step) (k e : ℕ) → lengthOf (tableAt run (ran run (afterFresh run s) steps .words) k) e ≡ largest (absorbed run (afterFresh run s) k steps) e
@@ -89,5 +70,5 @@ module _ (run : Run) (s : State) (fresh : freshRefusal run (length (s .words)) (
   same-pairs-same-tables steps j k p q same =
       let u = ran run (afterFresh run s) steps in
       let so = fresh-ran-sound run s fresh steps in
-      law M (table-sound run u so j p) (table-sound run u so k q) (table-length run u so j p ∙ sym (table-length run u so k q))
+      law M (site-sound run u so j p) (site-sound run u so k q) (site-length run u so j p ∙ sym (site-length run u so k q))
       (λ e. held-is-largest steps j e ∙ same-largest _ _ same e ∙ sym (held-is-largest steps k e))

@@ -1,15 +1,12 @@
 -- Lists of ids: an id among some, and how many different ids there are.
 -- Assumes nothing.
-use Prim.Native.Nat.{ℕ, suc, _+_, _≤_, _<_}
-use native.Mathlib.Nat.{le-refl}
+use Prim.Native.Nat.{ℕ, suc, _+_, _≤_}
 use native.Mathlib.Omega.{arith}
-use mathlib.Core.Bool.{Bool, true, false, _&&_, _||_, cond, or-true, or-assoc, false≢true}
+use mathlib.Core.Bool.{Bool, true, false, _||_, cond, or-true, or-assoc, false≢true}
 use mathlib.Core.Path.{_≡_, refl, sym, _∙_}
 use mathlib.Core.List.{List, [], _∷_, _++_}
-use lib.ListN.{length}
-use lib.Dec.{leb, eqb}
-use borrow.Author.Tests.{leb-true, eqb-true, eqb-false, eq-eqb, ne-eqb}
-use Rattle.rules.specs.View.{parts}
+use lib.Dec.{eqb}
+use borrow.Author.Tests.{eqb-true, eqb-false, eq-eqb, ne-eqb}
 use Rattle.rules.specs.Histories.{among, distinct}
 
 -- every id of the one is among the other
@@ -99,29 +96,3 @@ distinct-left xs ys = distinct-grows xs (xs ++ ys) (among-left xs ys)
 -- and as the second
 pub distinct-right : (xs ys : List ℕ) → distinct ys ≤ distinct (xs ++ ys)
 distinct-right xs ys = distinct-grows ys (xs ++ ys) (among-right xs ys)
-
--- ---- ids that rise strictly, from `lo` up
-unfoldable pub rising : ℕ → List ℕ → Bool
-rising lo [] = true
-rising lo (x ∷ xs) = leb lo x && rising (suc x) xs
-
--- an id below them all is not among them
-pub rising-above : (lo : ℕ) (xs : List ℕ) → rising lo xs ≡ true → (x : ℕ) → x < lo → among x xs ≡ false
-unfolding among rising
-rising-above lo [] h x p = refl
-rising-above lo (y ∷ ys) h x p =
-    let a = parts (leb lo y) _ h in
-    let low : lo ≤ y = leb-true lo y (a .0) in
-    rw (ne-eqb x y (omega arith)) (rising-above (suc y) ys (a .1) x (omega arith))
-
--- so no two of them are the same
-pub rising-distinct : (lo : ℕ) (xs : List ℕ) → rising lo xs ≡ true → distinct xs ≡ length xs
-unfolding distinct rising
-rising-distinct lo [] h = refl
-rising-distinct lo (x ∷ xs) h =
-    let a = parts (leb lo x) _ h in
-    rw (rising-above (suc x) xs (a .1) x (le-refl (suc x)), rising-distinct (suc x) xs (a .1))
-
--- and as many different ids there are in every list that has them all
-pub pigeonhole : (lo : ℕ) (xs ys : List ℕ) → rising lo xs ≡ true → AllAmong xs ys → length xs ≤ distinct ys
-pigeonhole lo xs ys h all = rw (← rising-distinct lo xs h) (distinct-grows xs ys all)

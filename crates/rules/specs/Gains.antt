@@ -1,137 +1,72 @@
--- What an accepted step does at the site that gains: each length there becomes its join with the largest of what the step gives.
+-- What an accepted step does, as sites absorb: each length becomes its join with the largest of what the step gives to the site.
 -- Assumes nothing.
-use Prim.Native.Nat.{ℕ, _*_, _<_}
+use Prim.Native.Nat.{ℕ, _≤_}
 use native.Mathlib.Omega.{arith}
-use mathlib.Core.Bool.{true, cond}
-use mathlib.Core.Path.{_≡_, refl, sym, ap, _∙_}
-use mathlib.Core.List.{List, []}
-use lib.ListN.{length, getD, length-take, length-drop}
+use mathlib.Core.Bool.{Bool, true, false, _&&_, cond}
+use mathlib.Core.Path.{_≡_, refl, _∙_}
+use mathlib.Core.List.{[]}
 use lib.Dec.{eqb}
-use borrow.Author.Tests.{eq-eqb, ne-eqb}
+use borrow.Author.Tests.{eqb-true}
 use Rattle.rules.specs.declared.Run.{Run}
 use Rattle.rules.specs.declared.Step.{Step}
 use Rattle.rules.specs.declared.Step.the-variants.{Add, Remove, Query, Send, Merge, Deliver, Again, Lose}
 use Rattle.rules.specs.Lengths.{M, afterAdd, afterRemove, join}
 use Rattle.rules.specs.LengthLaws.{add-rises, remove-rises}
-use Rattle.rules.specs.Table.{sound, lengthOf}
-use Rattle.rules.specs.Order.{Side, Side.below, Side.same, Side.above, side}
-use Rattle.rules.specs.Operations.{addTable, absorbTable, removeTable, mergeTable, raiseRefusal, removeRefusal, mergeRefusal}
-use Rattle.rules.specs.OperationLaws.{add-of, absorb-of, raise-length, remove-of, remove-length, merge-of, merge-length}
-use Rattle.rules.specs.Parcels.{noParcel}
-use Rattle.rules.specs.Runs.{State, width, tableAt, withTable, slotOf, sightOf, wordsIn, valueIn, valueOf, refusalOf, moved}
-use Rattle.rules.specs.Histories.{siteIn, pairOf, given, largest}
-use Rattle.rules.specs.Sites.{part-fits, tables-at, with-same}
-use Rattle.rules.specs.SlotLaws.{occupied-has}
-use Rattle.rules.specs.RunLaws.{StateSound, pass, accepted-sound, accepted-own, add-own, remove-own, merge-own, deliver-own}
-use Rattle.rules.specs.SoundRuns.{words-long}
+use Rattle.rules.specs.Runs.{State, tableAt, slotOf, sightOf, valueIn, valueOf, refusalOf, after}
+use Rattle.rules.specs.Histories.{siteIn, pairOf, parcelAt, entriesOf, given, largest}
+use Rattle.rules.specs.RunLaws.{accepted-sound, merge-own}
+use Rattle.rules.specs.SiteTables.{site-sound}
 use Rattle.rules.specs.Pairs.{largest-pair, largest-entries}
+use Rattle.rules.specs.Figure4.{lengthIn, changesLengths, figure4-add, figure4-remove, figure4-merge, figure4-deliver, figure4-none}
 
--- ---- the tables of a sound state
-module _ (run : Run) (s : State) (so : StateSound run s) (k : ℕ) (in-run : k < run .sites) where
-  long : length (s .words) ≡ run .sites * width run
-  long = words-long run (length (s .words)) (length (s .slots)) (so .0)
+-- nothing given
+pub nothing-gained : (n e : ℕ) → n ≡ join n (largest [] e)
+unfolding largest
+nothing-gained n e = omega arith
 
-  -- each is as laid out
-  pub table-sound : sound M (tableAt run (s .words) k) ≡ true
-  unfolding tableAt
-  table-sound = tables-at M (width run) (run .sites) (s .words) (so .1) k in-run
-
-  -- and "is 2 × C words long"
-  pub table-length : length (tableAt run (s .words) k) ≡ width run
-  unfolding tableAt
-  table-length = simp (length-take, length-drop) (omega (arith, part-fits k (run .sites) (width run) in-run, long))
-
-  -- a table of the same length that is put in is the one that is then read
-  put-in : (t : List ℕ) → length t ≡ length (tableAt run (s .words) k) → (e : ℕ) → lengthOf (tableAt run (withTable run (s .words) k t) k) e ≡ lengthOf t e
-  put-in t size e = ap (λ (u : List ℕ). lengthOf u e) (with-same run (s .words) t k (run .sites) in-run long (size ∙ table-length))
-
--- one id's length raised to its join with m is the join with the pair (x, m)
-raised-joins : (t : List ℕ) (x n m e : ℕ) → n ≡ join (lengthOf t x) m → cond (eqb x e) n (lengthOf t e) ≡ join (lengthOf t e) (largest (pairOf x m) e)
-raised-joins t x n m e h = go (side x e)
+-- one id's length raised at one site to its join with m is the join with the pair (x, m) there
+one-gained : (j k x e n m v : ℕ) → (j ≡ k → x ≡ e → v ≡ join n m) → cond (eqb j k && eqb x e) v n ≡ join n (largest (cond (eqb j k) (pairOf x m) []) e)
+one-gained j k x e n m v h = go (eqb j k) refl (eqb x e) refl
   where
-    other : (x ≡ e → ⊥) → cond (eqb x e) n (lengthOf t e) ≡ join (lengthOf t e) (largest (pairOf x m) e)
-    other ne = rw (largest-pair x m e, ne-eqb x e ne) (omega arith)
+    go : (b : Bool) → eqb j k ≡ b → (c : Bool) → eqb x e ≡ c → cond (b && c) v n ≡ join n (largest (cond b (pairOf x m) []) e)
+    go true p true q = rw (largest-pair x m e, q) (h (eqb-true j k p) (eqb-true x e q))
+    go true p false q = rw (largest-pair x m e, q) (omega arith)
+    go false p c q = nothing-gained n e
 
-    go : Side x e → cond (eqb x e) n (lengthOf t e) ≡ join (lengthOf t e) (largest (pairOf x m) e)
-    go (below p) = other (omega arith)
-    go (above p) = other (omega arith)
-    go (same p) = rw (largest-pair x m e, eq-eqb x e p) (rw (← p) h)
+module _ (run : Run) (s : State) (k e : ℕ) where
+  -- the length that site k has for the id after the step
+  abbrev pub Gained : Step → Type 0
+  Gained step = lengthIn run (after run s step) k e ≡ join (lengthIn run s k e) (largest (cond (eqb (siteIn run (sightOf run s step) step) k) (given run s step) []) e)
 
--- ---- an accepted step, at the site that gains
-module _ (run : Run) (s : State) where
-  -- the table of site k after the step, id by id
-  abbrev pub Gains : ℕ → Step → ℕ → Type 0
-  Gains k step e = lengthOf (tableAt run (moved run s step .words) k) e ≡ join (lengthOf (tableAt run (s .words) k) e) (largest (given run s step) e)
+  none-gained : (step : Step) → changesLengths step ≡ false → given run s step ≡ [] → Gained step
+  none-gained step h none = figure4-none run s step h k e ∙ (rw none (go (eqb (siteIn run (sightOf run s step) step) k)))
+    where
+      go : (b : Bool) → lengthIn run s k e ≡ join (lengthIn run s k e) (largest (cond b [] []) e)
+      go true = nothing-gained (lengthIn run s k e) e
+      go false = nothing-gained (lengthIn run s k e) e
 
-  add-gains : (k x : ℕ) → refusalOf run s (Add k x) ≡ 0 → (e : ℕ) → Gains k (Add k x) e
-  unfolding wordsIn given valueOf valueIn raiseRefusal
-  add-gains k x h e =
-      let so = accepted-sound run s (Add k x) h in
-      let p = add-own run s k x h in
-      let t = tableAt run (s .words) k in
-      let n = afterAdd (lengthOf t x) in
-      let ok = table-sound run s so k p in
-      let room : raiseRefusal t x n ≡ 0 = rw (pass 7 _ _ (pass 2 _ _ (accepted-own run s (Add k x) h) .1) .0) in
-      let up = add-rises (lengthOf t x) .0 in
-      put-in run s so k p (addTable t x) (raise-length M t x n ok) e
-      ∙ add-of M refl t x ok room e
-      ∙ raised-joins t x n n e (omega arith)
+  -- a length that a site raises itself
+  own-gained : (f : ℕ → ℕ) → ((n : ℕ) → n ≤ f n) → (j x : ℕ)
+      → cond (eqb j k && eqb x e) (f (lengthIn run s k e)) (lengthIn run s k e) ≡ join (lengthIn run s k e) (largest (cond (eqb j k) (pairOf x (f (lengthIn run s j x))) []) e)
+  own-gained f up j x = one-gained j k x e (lengthIn run s k e) (f (lengthIn run s j x)) (f (lengthIn run s k e)) (λ p q. rw (p, q) (omega (arith, up (lengthIn run s k e))))
 
-  remove-gains : (k x : ℕ) → refusalOf run s (Remove k x) ≡ 0 → (e : ℕ) → Gains k (Remove k x) e
-  unfolding wordsIn given valueOf valueIn removeRefusal
-  remove-gains k x h e =
-      let so = accepted-sound run s (Remove k x) h in
-      let p = remove-own run s k x h in
-      let t = tableAt run (s .words) k in
-      let n = afterRemove (lengthOf t x) in
-      let ok = table-sound run s so k p in
-      let fits : removeRefusal M t x ≡ 0 = rw (pass 6 _ _ (pass 2 _ _ (accepted-own run s (Remove k x) h) .1) .0) in
-      let up = remove-rises (lengthOf t x) .0 in
-      put-in run s so k p (removeTable M t x) (remove-length M t x ok) e
-      ∙ remove-of M t x ok fits e
-      ∙ raised-joins t x n n e (omega arith)
-
-  merge-gains : (f k : ℕ) → refusalOf run s (Merge f k) ≡ 0 → (e : ℕ) → Gains k (Merge f k) e
-  unfolding wordsIn given mergeRefusal
-  merge-gains f k h e =
-      let so = accepted-sound run s (Merge f k) h in
-      let p = merge-own run s f k h in
-      let t = tableAt run (s .words) k in
-      let u = tableAt run (s .words) f in
-      let ok = table-sound run s so k (p .1) in
-      let other = table-sound run s so f (p .0) in
-      let room : mergeRefusal t u ≡ 0 = rw (pass 7 _ _ (pass 3 _ _ (pass 2 _ _ (accepted-own run s (Merge f k) h) .1) .1) .0) in
-      put-in run s so k (p .1) (mergeTable t u) (merge-length M t u ok other) e
-      ∙ merge-of M t u ok other room e
-      ∙ ap (join (lengthOf t e)) (sym (largest-entries M u other e))
-
-  deliver-gains : (i : ℕ) → refusalOf run s (Deliver i) ≡ 0 → (e : ℕ) → Gains (getD (s .slots) i noParcel .site) (Deliver i) e
-  unfolding wordsIn given slotOf raiseRefusal
-  deliver-gains i h e =
-      let so = accepted-sound run s (Deliver i) h in
-      let q = getD (s .slots) i noParcel in
-      let o = occupied-has M (run .sites) q (deliver-own run s i h .1) in
-      let t = tableAt run (s .words) (q .site) in
-      let n = join (lengthOf t (q .id)) (q .length) in
-      let ok = table-sound run s so (q .site) (o .2) in
-      let room : raiseRefusal t (q .id) n ≡ 0 = rw (pass 7 _ _ (pass 4 _ _ (accepted-own run s (Deliver i) h) .1) .0) in
-      put-in run s so (q .site) (o .2) (absorbTable t (q .id) (q .length)) (raise-length M t (q .id) n ok) e
-      ∙ absorb-of M t (q .id) (q .length) (o .1) ok room e
-      ∙ raised-joins t (q .id) n (q .length) e refl
-
-  -- a step that changes no table gives nothing
-  pub nothing-gained : (ws : List ℕ) (k e : ℕ) → lengthOf (tableAt run ws k) e ≡ join (lengthOf (tableAt run ws k) e) (largest [] e)
-  unfolding largest
-  nothing-gained ws k e = omega arith
+  merge-gained : (f t : ℕ) → refusalOf run s (Merge f t) ≡ 0
+      → cond (eqb t k) (join (lengthIn run s k e) (lengthIn run s f e)) (lengthIn run s k e) ≡ join (lengthIn run s k e) (largest (cond (eqb t k) (entriesOf (tableAt run (s .words) f)) []) e)
+  merge-gained f t h = go (eqb t k)
+    where
+      go : (b : Bool) → cond b (join (lengthIn run s k e) (lengthIn run s f e)) (lengthIn run s k e)
+          ≡ join (lengthIn run s k e) (largest (cond b (entriesOf (tableAt run (s .words) f)) []) e)
+      go true = rw (largest-entries M (tableAt run (s .words) f) (site-sound run s (accepted-sound run s (Merge f t) h) f (merge-own run s f t h .0)) e)
+      go false = nothing-gained (lengthIn run s k e) e
 
   -- whatever the accepted step
-  pub gains : (step : Step) → refusalOf run s step ≡ 0 → (e : ℕ) → Gains (siteIn run (sightOf run s step) step) step e
-  unfolding siteIn wordsIn given slotOf
-  gains (Add k x) h e = add-gains k x h e
-  gains (Remove k x) h e = remove-gains k x h e
-  gains (Query k x) h e = nothing-gained (s .words) (run .sites) e
-  gains (Send f t x) h e = nothing-gained (s .words) (run .sites) e
-  gains (Merge f t) h e = merge-gains f t h e
-  gains (Deliver i) h e = deliver-gains i h e
-  gains (Again i) h e = nothing-gained (s .words) (run .sites) e
-  gains (Lose i) h e = nothing-gained (s .words) (run .sites) e
+  pub gains : (step : Step) → refusalOf run s step ≡ 0 → Gained step
+  unfolding siteIn given valueOf valueIn slotOf changesLengths
+  gains (Add j x) h = figure4-add run s j x h k e ∙ own-gained afterAdd (λ n. add-rises n .0) j x
+  gains (Remove j x) h = figure4-remove run s j x h k e ∙ own-gained afterRemove (λ n. remove-rises n .0) j x
+  gains (Query j x) h = none-gained (Query j x) refl refl
+  gains (Send f t x) h = none-gained (Send f t x) refl refl
+  gains (Merge f t) h = figure4-merge run s f t h k e ∙ merge-gained f t h
+  gains (Deliver i) h = figure4-deliver run s i h k e ∙ one-gained (parcelAt s i .site) k (parcelAt s i .id) e _ _ _ (λ p q. refl)
+  gains (Again i) h = none-gained (Again i) refl refl
+  gains (Lose i) h = none-gained (Lose i) refl refl

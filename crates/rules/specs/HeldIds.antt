@@ -1,25 +1,20 @@
--- The ids of a table: as many different ones as it has entries, what each operation makes of them, and the entries that an operation needs,
--- counted as different ids.
+-- The ids of a table: as many different ones as it has entries, and the entries that an operation needs, counted as different ids.
 -- Assumes nothing.
 use Prim.Native.Nat.{ℕ, zero, suc, _+_, _≤_}
 use native.Mathlib.Nat.{le-refl, add-zero}
 use native.Mathlib.Omega.{arith}
-use mathlib.Core.Bool.{Bool, true, false, _||_, not, cond}
+use mathlib.Core.Bool.{Bool, true, false, not, cond}
 use mathlib.Core.Path.{_≡_, refl, sym, ap, _∙_}
 use mathlib.Core.List.{List, [], _∷_, _++_}
 use lib.ListN.{length}
-use lib.Dec.{eqb}
-use borrow.Author.Tests.{le-leb, eqb-true, eqb-false, eq-eqb, ne-eqb, not-true}
-use Rattle.rules.specs.LengthLaws.{remove-none}
-use Rattle.rules.specs.Lengths.{afterRemove}
+use lib.Dec.{eqb, ltb}
+use borrow.Author.Tests.{lt-ltb, eqb-false, ne-eqb, not-true}
 use Rattle.rules.specs.Table.{sound, lengthOf, held, heldWith, newIds, heldMerged}
-use Rattle.rules.specs.Order.{Side, Side.below, Side.same, Side.above, side}
 use Rattle.rules.specs.View.{Unused, Unused.none, Unused.pair, Sound, Sound.rest, Sound.used, seen}
-use Rattle.rules.specs.Law.{of-same, of-other, of-unused}
-use Rattle.rules.specs.Operations.{raiseRefusal, raiseTable, removeRefusal, removeTable, mergeRefusal, mergeTable}
-use Rattle.rules.specs.OperationLaws.{raise-sound, raise-of, remove-sound, remove-of, merge-sound, merge-of}
 use Rattle.rules.specs.Histories.{idsOf, among, distinct}
-use Rattle.rules.specs.Distinct.{AllAmong, among-append, among-left, among-right, distinct-right, rising, rising-above, rising-distinct}
+use Rattle.rules.specs.Climbing.{Climbing, among-below, climbing-distinct}
+use Rattle.rules.specs.Rising.{risen, risen-climbs, risen-among}
+use Rattle.rules.specs.Distinct.{among-append, distinct-right}
 
 -- ---- the ids of a table
 -- they are as many as its entries
@@ -30,42 +25,36 @@ ids-many (w ∷ []) = refl
 ids-many (e ∷ zero ∷ t) = refl
 ids-many (e ∷ suc n ∷ t) = ap suc (ids-many t)
 
-ids-unused : {t : List ℕ} → Unused t → idsOf t ≡ []
+-- an unused table has none
+pub ids-unused : {t : List ℕ} → Unused t → idsOf t ≡ []
 unfolding idsOf
 ids-unused none = refl
 ids-unused (pair z) = refl
 
-ids-rise : {most lo : ℕ} {t : List ℕ} → Sound most lo t → rising lo (idsOf t) ≡ true
-unfolding idsOf rising
-ids-rise (rest z) = rw (ids-unused z)
-ids-rise (used {e = e} {n = n} {t = t} l m s) = rw (le-leb _ e l) (ids-rise s)
+-- they are the ids whose length is above none, as where a table comes into one that holds nothing
+ids-risen : (t : List ℕ) → idsOf t ≡ risen [] t
+unfolding idsOf risen lengthOf
+ids-risen [] = refl
+ids-risen (w ∷ []) = refl
+ids-risen (e ∷ zero ∷ t) = refl
+ids-risen (e ∷ suc n ∷ t) = rw (lt-ltb 0 (suc n) (omega arith)) (ap (λ (ids : List ℕ). e ∷ ids) (ids-risen t))
 
--- and they hold the ids that have a length
-ids-seen : {most lo : ℕ} {t : List ℕ} → Sound most lo t → (x : ℕ) → among x (idsOf t) ≡ not (eqb (lengthOf t x) 0)
-unfolding idsOf among
-ids-seen (rest z) x = rw (ids-unused z, of-unused z x)
-ids-seen {most} {lo} (used {e = e} {n = n} {t = t} l m s) x = go (side x e) (ids-seen s x)
-  where
-    other : (x ≡ e → ⊥) → among x (idsOf t) ≡ not (eqb (lengthOf t x) 0) → eqb x e || among x (idsOf t) ≡ not (eqb (lengthOf (e ∷ suc n ∷ t) x) 0)
-    other ne ih = rw (ne-eqb x e ne, of-other e (suc n) t x (λ q. ne (sym q))) ih
+ids-climb : {most lo : ℕ} {t : List ℕ} → Sound most lo t → Climbing lo (idsOf t)
+ids-climb {t = t} s = rw (ids-risen t) (risen-climbs s [])
 
-    go : Side x e → among x (idsOf t) ≡ not (eqb (lengthOf t x) 0) → eqb x e || among x (idsOf t) ≡ not (eqb (lengthOf (e ∷ suc n ∷ t) x) 0)
-    go (below p) ih = other (omega arith) ih
-    go (above p) ih = other (omega arith) ih
-    go (same p) ih = rw (p, eq-eqb e e refl, of-same e (suc n) t, ne-eqb (suc n) 0 (omega arith))
+above-none : (n : ℕ) → ltb 0 n ≡ not (eqb n 0)
+above-none zero = refl
+above-none (suc n) = rw (lt-ltb 0 (suc n) (omega arith), ne-eqb (suc n) 0 (omega arith))
 
 module _ (most : ℕ) (t : List ℕ) (ok : sound most t ≡ true) where
-  -- the ids of a sound table rise strictly
-  pub ids-rising : rising 0 (idsOf t) ≡ true
-  ids-rising = ids-rise (seen {most = most} {lo = 0} ok)
-
-  -- so there are as many different ids as entries
+  -- each is above the one before, so there are as many different ids as entries
   pub ids-distinct : distinct (idsOf t) ≡ held t
-  ids-distinct = rising-distinct 0 (idsOf t) ids-rising ∙ ids-many t
+  ids-distinct = climbing-distinct (ids-climb (seen {most = most} {lo = 0} ok)) ∙ ids-many t
 
   -- an id is among them exactly where it has a length above 0
   pub ids-among : (x : ℕ) → among x (idsOf t) ≡ not (eqb (lengthOf t x) 0)
-  ids-among x = ids-seen (seen {most = most} {lo = 0} ok) x
+  unfolding lengthOf
+  ids-among x = rw (ids-risen t) (risen-among most [] t ok x) ∙ above-none (lengthOf t x)
 
   -- one that has a length is among them
   pub held-among : (x : ℕ) → 1 ≤ lengthOf t x → among x (idsOf t) ≡ true
@@ -92,7 +81,7 @@ unfolding newIds idsOf distinct
 needed-by {most} (rest none) t ok = add-zero (held t) ∙ sym (ids-distinct most t ok)
 needed-by {most} (rest (pair z)) t ok = add-zero (held t) ∙ sym (ids-distinct most t ok)
 needed-by {most} (used {e = e} {n = n} {t = s} l m r) t ok =
-    rw (among-append e (idsOf s) (idsOf t), rising-above (suc e) (idsOf s) (ids-rise r) e (le-refl (suc e)), ids-among most t ok e) (go (eqb (lengthOf t e) 0) (needed-by r t ok))
+    rw (among-append e (idsOf s) (idsOf t), among-below (ids-climb r) e (le-refl (suc e)), ids-among most t ok e) (go (eqb (lengthOf t e) 0) (needed-by r t ok))
   where
     go : (b : Bool) → held t + newIds t s ≡ distinct (idsOf s ++ idsOf t)
         → held t + cond b (suc (newIds t s)) (newIds t s) ≡ cond (not b) (distinct (idsOf s ++ idsOf t)) (suc (distinct (idsOf s ++ idsOf t)))
@@ -102,53 +91,3 @@ needed-by {most} (used {e = e} {n = n} {t = s} l m r) t ok =
 -- the entries that a merge needs are the different ids of both tables
 pub needed-for-all : (most : ℕ) (t s : List ℕ) → sound most t ≡ true → sound most s ≡ true → heldMerged t s ≡ distinct (idsOf s ++ idsOf t)
 needed-for-all most t s ok other = needed-by (seen {most = most} {lo = 0} other) t ok
-
--- ---- the ids after an operation
--- after an id's length is raised: that id and those before
-pub raise-ids : (most : ℕ) (t : List ℕ) (e n : ℕ) → sound most t ≡ true → lengthOf t e ≤ n → n ≤ most → AllAmong (idsOf (raiseTable t e n)) (e ∷ idsOf t)
-unfolding among
-raise-ids most t e n ok low high = go (raiseRefusal t e n) refl
-  where
-    go : (r : ℕ) → raiseRefusal t e n ≡ r → AllAmong (idsOf (raiseTable t e n)) (e ∷ idsOf t)
-    go (suc r) a x h = unfold raiseTable in among-right (e ∷ []) (idsOf t) x (rw a at h)
-    go zero a x h = by (eqb x e) refl
-      where
-        by : (b : Bool) → eqb x e ≡ b → b || among x (idsOf t) ≡ true
-        by true q = refl
-        by false q =
-            let ne : e ≡ x → ⊥ = λ p. eqb-false x e q (sym p) in
-            let as-before : lengthOf (raiseTable t e n) x ≡ lengthOf t x = raise-of most t e n ok low a x ∙ (rw (ne-eqb e x ne)) in
-            held-among most t ok x (rw (← as-before) (among-held most (raiseTable t e n) (raise-sound most t e n ok high) x h))
-
--- after a remove: those before, since "no entry is made"
-pub remove-ids : (most : ℕ) (t : List ℕ) (e : ℕ) → sound most t ≡ true → AllAmong (idsOf (removeTable most t e)) (idsOf t)
-remove-ids most t e ok = go (removeRefusal most t e) refl
-  where
-    none : (x : ℕ) → removeRefusal most t e ≡ 0 → lengthOf t x ≡ 0 → lengthOf (removeTable most t e) x ≡ 0
-    none x a z = remove-of most t e ok a x ∙ by (eqb e x) refl
-      where
-        by : (b : Bool) → eqb e x ≡ b → cond b (afterRemove (lengthOf t e)) (lengthOf t x) ≡ 0
-        by true q = rw (eqb-true e x q, z, remove-none)
-        by false q = z
-
-    go : (r : ℕ) → removeRefusal most t e ≡ r → AllAmong (idsOf (removeTable most t e)) (idsOf t)
-    go (suc r) a x h = unfold removeTable in rw a at h
-    go zero a x h = by (lengthOf t x) refl
-      where
-        by : (k : ℕ) → lengthOf t x ≡ k → among x (idsOf t) ≡ true
-        by zero z = absurd (omega (arith, none x a z, among-held most (removeTable most t e) (remove-sound most t e ok) x h))
-        by (suc k) z = held-among most t ok x (omega arith)
-
--- after a merge: those of both tables
-pub merge-ids : (most : ℕ) (t s : List ℕ) → sound most t ≡ true → sound most s ≡ true → AllAmong (idsOf (mergeTable t s)) (idsOf s ++ idsOf t)
-merge-ids most t s ok other = go (mergeRefusal t s) refl
-  where
-    go : (r : ℕ) → mergeRefusal t s ≡ r → AllAmong (idsOf (mergeTable t s)) (idsOf s ++ idsOf t)
-    go (suc r) a x h = unfold mergeTable in among-right (idsOf s) (idsOf t) x (rw a at h)
-    go zero a x h = by (lengthOf s x) refl
-      where
-        by : (k : ℕ) → lengthOf s x ≡ k → among x (idsOf s ++ idsOf t) ≡ true
-        by zero z =
-            let some : 1 ≤ lengthOf (mergeTable t s) x = among-held most (mergeTable t s) (merge-sound most t s ok other) x h in
-            among-right (idsOf s) (idsOf t) x (held-among most t ok x (omega (arith, some, merge-of most t s ok other a x)))
-        by (suc k) z = among-left (idsOf s) (idsOf t) x (held-among most s other x (omega arith))

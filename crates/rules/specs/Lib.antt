@@ -15,9 +15,11 @@ pub mod Ledgers
 pub mod Runs
 pub mod Histories
 pub mod Sites
+pub mod Zeros
 pub mod SlotLaws
 pub mod LedgerLaws
 pub mod RunLaws
+pub mod SiteTables
 pub mod SoundRuns
 pub mod Text
 pub mod Number
@@ -35,10 +37,11 @@ pub mod Members
 pub mod Cases
 pub mod Pairs
 pub mod Counting
+pub mod Figure4
 pub mod Gains
 pub mod Absorbing
 pub mod Reports
-pub mod Figure4
+pub mod Climbing
 pub mod Rising
 pub mod Sample
 pub mod Determined

@@ -1,13 +1,13 @@
 -- Worked cases, as one table under one statement, and the lines as the document lists them. Assumes nothing.
 use mathlib.Core.Path.{_≡_, refl}
 use mathlib.Core.Bool.{Bool, true, false, _&&_}
-use mathlib.Core.List.{List, [], _∷_, _++_, append-nil}
+use mathlib.Core.List.{List, [], _∷_}
 use Prim.Native.Nat.{ℕ}
 use Prim.Native.String.{String}
 use lib.Dec.{eqb}
-use Rattle.rules.specs.Text.{ascii, Front, front, refused, behind}
+use Rattle.rules.specs.Text.{ascii, behind}
 use Rattle.rules.specs.Number.{upTo, digits, digitOf, digitRun, fair, judged, readNumber}
-use Rattle.rules.specs.Lines.{leads, lead, toName, idName, hasSecond, hasId, field, textOf, namesStep, firstOf, kindOf, readField, andThen, ended, numbersOf}
+use Rattle.rules.specs.Lines.{lead, field, textOf, firstOf, kindOf, readField, numbersOf}
 use Rattle.rules.specs.declared.Line.{Line}
 use Rattle.rules.specs.declared.Line.the-variants.{Numbers, NoLine}
 

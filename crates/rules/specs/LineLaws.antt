@@ -1,17 +1,16 @@
 -- What follows for step lines: a step that is written is read back, a line that is read is written back. Assumes nothing.
-use mathlib.Core.Path.{_≡_, refl, sym, ap, _∙_, subst}
-use mathlib.Core.Bool.{Bool, true, false, cond, _&&_, _||_}
+use mathlib.Core.Path.{_≡_, refl, sym, ap, _∙_}
+use mathlib.Core.Bool.{Bool, true, false, _&&_, _||_}
 use mathlib.Core.List.{List, [], _∷_, _++_, append-assoc, append-nil}
 use Prim.Native.Nat.{ℕ, zero, suc, _+_, _-_, _^_, _≤_, _<_}
 use native.Mathlib.Omega.{arith}
 use borrow.Author.Tests.{eqb-true, eq-eqb, leb-true, le-leb}
-use lib.Dec.{leb, eqb, ltb}
+use lib.Dec.{leb, eqb}
 use lib.ListN.{length, getD}
-use Rattle.rules.specs.Text.{ascii, Front, front, refused, next, behind, pick}
+use Rattle.rules.specs.Text.{Front, front, refused, next, behind}
 use Rattle.rules.specs.Number.{digits, readNumber, digitOf}
-use Rattle.rules.specs.NumberLaws.{below, by-test, NoDigit, read-digits, read-text, read-suffix}
-use Rattle.rules.specs.Lines.{leads, lead, toName, idName, hasSecond, hasId, field, textOf, namesStep, orElse, firstOf, kindOf, readField, andThen, ended, numbersOf}
-use Rattle.rules.specs.declared.Line.{Line}
+use Rattle.rules.specs.NumberLaws.{by-test, NoDigit, read-digits, read-text, read-suffix}
+use Rattle.rules.specs.Lines.{leads, lead, toName, idName, hasSecond, hasId, field, textOf, namesStep, firstOf, kindOf, readField, ended, numbersOf}
 use Rattle.rules.specs.declared.Line.the-variants.{Numbers, NoLine}
 
 -- ---- a fixed piece of text

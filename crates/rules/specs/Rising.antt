@@ -1,16 +1,16 @@
 -- "a merge reports how many lengths rose": the number that it answers, counted beforehand over the entries that come in, is the number of ids
 -- whose length after the merge is above the one before.
 -- Assumes nothing.
-use Prim.Native.Nat.{ℕ, zero, suc, _≤_, _<_, max}
-use native.Mathlib.Nat.{le-refl, le-trans}
+use Prim.Native.Nat.{ℕ, zero, suc, _≤_, max}
+use native.Mathlib.Nat.{le-refl}
 use native.Mathlib.Omega.{arith}
-use mathlib.Core.Bool.{Bool, true, false, cond, false≢true}
+use mathlib.Core.Bool.{Bool, true, false, cond}
 use mathlib.Core.Path.{_≡_, refl, sym, ap, _∙_}
 use mathlib.Core.Logic.{⊎-elim}
 use mathlib.Core.List.{List, [], _∷_}
 use lib.ListN.{length}
 use lib.Dec.{ltb}
-use borrow.Author.Tests.{lt-ltb, le-ltb, eq-eqb, ne-eqb}
+use borrow.Author.Tests.{lt-ltb, le-ltb}
 use Rattle.rules.specs.declared.Run.{Run}
 use Rattle.rules.specs.declared.Step.the-variants.{Merge}
 use Rattle.rules.specs.Lengths.{M}
@@ -21,51 +21,10 @@ use Rattle.rules.specs.Law.{of-same, of-other, of-unused}
 use Rattle.rules.specs.Merge.{merged-of}
 use Rattle.rules.specs.Runs.{State, tableAt, valueIn, refusalOf, valueOf, after}
 use Rattle.rules.specs.Histories.{among}
-use Rattle.rules.specs.RunLaws.{merge-own}
-use Rattle.rules.specs.Figure4.{lengthIn, accepted-table, merge-table}
-
--- ---- lists of ids, each above the one before
--- with the ids lo or above
-pub data Climbing : ℕ → List ℕ → Type 0 where
-  end : {lo : ℕ} → Climbing lo []
-  next : {lo e : ℕ} {ids : List ℕ} → lo ≤ e → Climbing (suc e) ids → Climbing lo (e ∷ ids)
-
-lower : {lo low : ℕ} {ids : List ℕ} → low ≤ lo → Climbing lo ids → Climbing low ids
-lower p end = end
-lower p (next l c) = next (le-trans p l) c
-
-among-same : (x : ℕ) (ids : List ℕ) → among x (x ∷ ids) ≡ true
-unfolding among
-among-same x ids = rw (eq-eqb x x refl)
-
-among-other : (x y : ℕ) (ids : List ℕ) → (x ≡ y → ⊥) → among x (y ∷ ids) ≡ among x ids
-unfolding among
-among-other x y ids ne = rw (ne-eqb x y ne)
-
-among-below : {lo : ℕ} {ids : List ℕ} → Climbing lo ids → (x : ℕ) → x < lo → among x ids ≡ false
-unfolding among
-among-below end x h = refl
-among-below (next {e = e} {ids = ids} l c) x h = among-other x e ids (omega arith) ∙ among-below c x (omega arith)
-
--- two of them with the same ids are one list
-climbing-one : {lo : ℕ} {xs ys : List ℕ} → Climbing lo xs → Climbing lo ys → ((x : ℕ) → among x xs ≡ among x ys) → xs ≡ ys
-unfolding among
-climbing-one end end h = refl
-climbing-one end (next {e = y} {ids = ys} l c) h = absurd (false≢true (h y ∙ among-same y ys))
-climbing-one (next {e = x} {ids = xs} l c) end h = absurd (false≢true (sym (h x) ∙ among-same x xs))
-climbing-one {lo} (next {e = x} {ids = xs} l c) (next {e = y} {ids = ys} l′ c′) h = go (side x y) (λ p agree. climbing-one c (rw p c′) agree)
-  where
-    tails : x ≡ y → (z : ℕ) → Side z x → among z xs ≡ among z ys
-    tails p z (below q) = among-below c z (omega arith) ∙ sym (among-below c′ z (omega arith))
-    tails p z (same q) = among-below c z (omega arith) ∙ sym (among-below c′ z (omega arith))
-    tails p z (above q) = sym (among-other z x xs (omega arith)) ∙ h z ∙ among-other z y ys (omega arith)
-
-    go : Side x y → (x ≡ y → ((z : ℕ) → among z xs ≡ among z ys) → xs ≡ ys) → x ∷ xs ≡ y ∷ ys
-    go (below p) ih = absurd (false≢true (sym (among-other x y ys (omega arith) ∙ among-below c′ x (omega arith)) ∙ sym (h x) ∙ among-same x xs))
-    go (above p) ih = absurd (false≢true (sym (among-other y x xs (omega arith) ∙ among-below c y (omega arith)) ∙ h y ∙ among-same y ys))
-    go (same p) ih =
-        let rests : xs ≡ ys = ih p (λ z. tails p z (side z x)) in
-        cc
+use Rattle.rules.specs.Climbing.{Climbing, Climbing.end, Climbing.next, climbing-lower, among-same, among-other, among-below, climbing-one}
+use Rattle.rules.specs.RunLaws.{accepted-sound, merge-own}
+use Rattle.rules.specs.SiteTables.{site-sound}
+use Rattle.rules.specs.Figure4.{lengthIn, merge-table}
 
 -- ---- the ids that rose
 -- the ids of the entries of u whose length is above the one that t has for the id
@@ -87,17 +46,18 @@ risen-count t (e ∷ suc n ∷ u) = go (ltb (lengthOf t e) (suc n)) (risen-count
     go true ih = ap suc ih
     go false ih = ih
 
-risen-climbing′ : {most lo : ℕ} {u : List ℕ} → Sound most lo u → (t : List ℕ) → Climbing lo (risen t u)
+-- they are the ids of entries, so each is above the one before
+pub risen-climbs : {most lo : ℕ} {u : List ℕ} → Sound most lo u → (t : List ℕ) → Climbing lo (risen t u)
 unfolding risen
-risen-climbing′ (rest none) t = end
-risen-climbing′ (rest (pair z)) t = end
-risen-climbing′ {most} {lo} (used {e = e} {n = n} {t = u} l m s) t = go (ltb (lengthOf t e) (suc n)) (risen-climbing′ s t)
+risen-climbs (rest none) t = end
+risen-climbs (rest (pair z)) t = end
+risen-climbs {most} {lo} (used {e = e} {n = n} {t = u} l m s) t = go (ltb (lengthOf t e) (suc n)) (risen-climbs s t)
   where
     go : (b : Bool) → Climbing (suc e) (risen t u) → Climbing lo (cond b (e ∷ risen t u) (risen t u))
     go true c = next l c
     go false c =
         let p : lo ≤ suc e = omega arith in
-        lower p c
+        climbing-lower p c
 
 -- no length is below 0
 none-below : (n : ℕ) → false ≡ ltb n 0
@@ -119,12 +79,12 @@ risen-among′ {most} {lo} (used {e = e} {n = n} {t = u} l m s) t x = go (ltb (l
     go b q (below p) ih = past b (omega arith) ih
     go b q (above p) ih = past b (omega arith) ih
     go true q (same p) ih = rw (p, of-same e (suc n) u, q) (among-same e (risen t u))
-    go false q (same p) ih = rw (p, of-same e (suc n) u, q) (among-below (risen-climbing′ s t) e (le-refl (suc e)))
+    go false q (same p) ih = rw (p, of-same e (suc n) u, q) (among-below (risen-climbs s t) e (le-refl (suc e)))
 
 module _ (most : ℕ) (t u : List ℕ) (ok : sound most u ≡ true) where
   -- each of them once, in rising order
   pub risen-climbing : Climbing 0 (risen t u)
-  risen-climbing = risen-climbing′ (seen {most = most} {lo = 0} ok) t
+  risen-climbing = risen-climbs (seen {most = most} {lo = 0} ok) t
 
   -- and they are exactly the ids with a larger length in u than in t
   pub risen-among : (x : ℕ) → among x (risen t u) ≡ ltb (lengthOf t x) (lengthOf u x)
@@ -155,7 +115,7 @@ module _ (run : Run) (s : State) (f t : ℕ) (ok : refusalOf run s (Merge f t) �
   merge-value =
       let p = merge-own run s f t ok in
       let m = merge-table run s f t ok in
-      rw (m .0) (sym (merged-rises M (tableAt run (s .words) t) (tableAt run (s .words) f) (accepted-table run s (Merge f t) ok t (p .1)) (accepted-table run s (Merge f t) ok f (p .0)) (m .1)))
+      rw (m .0) (sym (merged-rises M (tableAt run (s .words) t) (tableAt run (s .words) f) (site-sound run s (accepted-sound run s (Merge f t) ok) t (p .1)) (site-sound run s (accepted-sound run s (Merge f t) ok) f (p .0)) (m .1)))
 
   -- what it counts: a list of ids, each once, and they are exactly those with a larger length at the second site after the step than before
   pub merge-counts : (valueOf run s (Merge f t) ≡ length (risen (tableAt run (s .words) t) (tableAt run (after run s (Merge f t) .words) t)))
@@ -166,6 +126,6 @@ module _ (run : Run) (s : State) (f t : ℕ) (ok : refusalOf run s (Merge f t) �
       let now = tableAt run (after run s (Merge f t) .words) t in
       let p = merge-own run s f t ok in
       let m = merge-table run s f t ok in
-      let joined = merged-of M before (tableAt run (s .words) f) (accepted-table run s (Merge f t) ok t (p .1)) (accepted-table run s (Merge f t) ok f (p .0)) (m .1) in
+      let joined = merged-of M before (tableAt run (s .words) f) (site-sound run s (accepted-sound run s (Merge f t) ok) t (p .1)) (site-sound run s (accepted-sound run s (Merge f t) ok) f (p .0)) (m .1) in
       let fine : sound M now ≡ true = rw (m .0) (joined .ok) in
       (merge-value ∙ sym (risen-count before now), risen-climbing M before now fine, risen-among M before now fine)

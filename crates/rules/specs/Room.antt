@@ -15,29 +15,20 @@ use Rattle.rules.specs.Lengths.{M, afterAdd, join}
 use Rattle.rules.specs.Table.{capacity, lengthOf, heldWith, heldMerged}
 use Rattle.rules.specs.Parcels.{noParcel}
 use Rattle.rules.specs.Runs.{State, tableAt, slotOf, sightOf, Test, _when_, outside, firstGiven, stepTests, refusalOf, freshRefusal, afterFresh}
-use Rattle.rules.specs.RunLaws.{StateSound, sound-judged, neither}
-use Rattle.rules.specs.SoundRuns.{fresh-sound}
+use Rattle.rules.specs.RunLaws.{StateSound, past, none-given, neither, sound-judged}
+use Rattle.rules.specs.SiteTables.{site-sound, site-capacity}
+use Rattle.rules.specs.Counting.{fresh-ran-sound}
 use Rattle.rules.specs.Histories.{ran, siteIn, idsOf, offer, offeredIn, offered, distinct}
 use Rattle.rules.specs.Distinct.{among-left, among-right, among-either, distinct-grows, distinct-left}
 use Rattle.rules.specs.HeldIds.{needed-for-one, needed-for-all}
-use Rattle.rules.specs.Offering.{site-sound, site-capacity, ran-sound, offered-append, held-ids}
+use Rattle.rules.specs.Offering.{offered-append, held-ids}
 
 -- ---- refusal 8 in a sound state
--- a test with another number did not refuse
-past : (k n : ℕ) (b : Bool) (ts : List Test) → (n ≡ k → ⊥) → firstGiven ((n when b) ∷ ts) ≡ k → (b ≡ false) × (firstGiven ts ≡ k)
-unfolding firstGiven
-past k n true ts ne h = absurd (ne h)
-past k n false ts ne h = (refl, h)
-
--- the test with the number did, where no later one has it
+-- the test with the number is given, where no later one has it
 given-by : (k n : ℕ) (b : Bool) (ts : List Test) → (firstGiven ts ≡ k → ⊥) → firstGiven ((n when b) ∷ ts) ≡ k → b ≡ true
 unfolding firstGiven
 given-by k n true ts later h = refl
 given-by k n false ts later h = absurd (later h)
-
-nothing-given : (k : ℕ) → 1 ≤ k → firstGiven [] ≡ k → ⊥
-unfolding firstGiven
-nothing-given k p h = omega arith
 
 module _ (run : Run) (s : State) (ok : StateSound run s) where
   own-tests : (step : Step) → refusalOf run s step ≡ 8 → firstGiven (stepTests run (s .words) (sightOf run s step) step) ≡ 8
@@ -55,12 +46,12 @@ module _ (run : Run) (s : State) (ok : StateSound run s) where
       let t = tableAt run (s .words) k in
       let a = past 8 3 _ _ (omega arith) (own-tests (Add k e) r) in
       let n : ℕ = afterAdd (lengthOf t e) in
-      let b : capacity t < heldWith t e n = ltb-true _ _ (given-by 8 8 _ _ (nothing-given 8 (omega arith)) (a .1)) in
+      let b : capacity t < heldWith t e n = ltb-true _ _ (given-by 8 8 _ _ (none-given 8 (omega arith)) (a .1)) in
       more k h _ (le-trans b (needed-for-one M t (site-sound run s ok k h) e n))
   crowded-ids (Remove k e) h r =
       let a = past 8 3 _ _ (omega arith) (own-tests (Remove k e) r) in
       let b = past 8 7 _ _ (omega arith) (a .1) in
-      absurd (nothing-given 8 (omega arith) (b .1))
+      absurd (none-given 8 (omega arith) (b .1))
   crowded-ids (Query k e) h r = absurd (omega arith)
   crowded-ids (Send f t e) h r = absurd (omega arith)
   crowded-ids (Merge f t) h r =
@@ -68,7 +59,7 @@ module _ (run : Run) (s : State) (ok : StateSound run s) where
       let from = tableAt run (s .words) f in
       let a = past 8 3 _ _ (omega arith) (own-tests (Merge f t) r) in
       let b = past 8 4 _ _ (omega arith) (a .1) in
-      let c : capacity to < heldMerged to from = ltb-true _ _ (given-by 8 8 _ _ (nothing-given 8 (omega arith)) (b .1)) in
+      let c : capacity to < heldMerged to from = ltb-true _ _ (given-by 8 8 _ _ (none-given 8 (omega arith)) (b .1)) in
       let inside : outside run f ≡ false = neither _ _ (a .0) .0 in
       let there = site-sound run s ok t h in
       let here = site-sound run s ok f (leb-false _ _ inside) in
@@ -78,7 +69,7 @@ module _ (run : Run) (s : State) (ok : StateSound run s) where
       let t = tableAt run (s .words) (p .site) in
       let a = past 8 5 _ _ (omega arith) (own-tests (Deliver i) r) in
       let n : ℕ = join (lengthOf t (p .id)) (p .length) in
-      let b : capacity t < heldWith t (p .id) n = ltb-true _ _ (given-by 8 8 _ _ (λ q. nothing-given 8 (omega arith) (past 8 10 _ _ (omega arith) q .1)) (a .1)) in
+      let b : capacity t < heldWith t (p .id) n = ltb-true _ _ (given-by 8 8 _ _ (λ q. none-given 8 (omega arith) (past 8 10 _ _ (omega arith) q .1)) (a .1)) in
       rw (a .0) (more (p .site) h _ (le-trans b (needed-for-one M t (site-sound run s ok (p .site) h) (p .id) n)))
   crowded-ids (Again i) h r = absurd (omega arith)
   crowded-ids (Lose i) h r = absurd (omega arith)
@@ -95,7 +86,7 @@ module _ (run : Run) (s : State) (made : freshRefusal run (length (s .words)) (l
       now = ran run (afterFresh run s) before
 
       ok : StateSound run now
-      ok = ran-sound run (afterFresh run s) before (fresh-sound run s made)
+      ok = fresh-ran-sound run s made before
 
       past-offers : List ℕ
       past-offers = offered run (afterFresh run s) k before

@@ -63,11 +63,20 @@ StateSound run s =
     × (slotsSound M (run .sites) (s .slots) ≡ true)
     × (ledgerSound M (waiting (s .slots)) (s .ledger) ≡ true)
 
--- where no test of a list is given, the first is not, and none of the others
-pub pass : (n : ℕ) (b : Bool) (ts : List Test) → firstGiven ((suc n when b) ∷ ts) ≡ 0 → (b ≡ false) × (firstGiven ts ≡ 0)
+-- where a list of tests gives a number, a test with another number is not given, and the others give it
+pub past : (k n : ℕ) (b : Bool) (ts : List Test) → (n ≡ k → ⊥) → firstGiven ((n when b) ∷ ts) ≡ k → (b ≡ false) × (firstGiven ts ≡ k)
 unfolding firstGiven
-pass n true ts h = absurd (suc-ne-zero n h)
-pass n false ts h = (refl, h)
+past k n true ts ne h = absurd (ne h)
+past k n false ts ne h = (refl, h)
+
+-- so where no test of a list is given, the first is not, and none of the others
+pub pass : (n : ℕ) (b : Bool) (ts : List Test) → firstGiven ((suc n when b) ∷ ts) ≡ 0 → (b ≡ false) × (firstGiven ts ≡ 0)
+pass n b ts h = past 0 (suc n) b ts (suc-ne-zero n) h
+
+-- no tests give no number
+pub none-given : (k : ℕ) → 1 ≤ k → firstGiven [] ≡ k → ⊥
+unfolding firstGiven
+none-given k p h = omega arith
 
 -- both parts of an or that does not hold
 pub neither : (a b : Bool) → a || b ≡ false → (a ≡ false) × (b ≡ false)
@@ -101,13 +110,7 @@ module _ (run : Run) (s : State) (step : Step) where
 
 -- ---- the same, by the numbers
 not-given : (k n : ℕ) (b : Bool) (ts : List Test) → (n ≡ k → ⊥) → (firstGiven ts ≡ k → ⊥) → firstGiven ((n when b) ∷ ts) ≡ k → ⊥
-unfolding firstGiven
-not-given k n true ts p q h = p h
-not-given k n false ts p q h = q h
-
-none-given : (k : ℕ) → 1 ≤ k → firstGiven [] ≡ k → ⊥
-unfolding firstGiven
-none-given k p h = omega arith
+not-given k n b ts ne later h = later (past k n b ts ne h .1)
 
 -- a step's own tests have the numbers from 3 up
 own-numbers : (k : ℕ) → 1 ≤ k → k ≤ 2 → (run : Run) (ws : List ℕ) (si : Sight) (step : Step) → firstGiven (stepTests run ws si step) ≡ k → ⊥

@@ -1,78 +1,37 @@
 -- A sound state stays sound: a fresh run is sound, every step keeps it so, the sizes stay, and a step changes no table but its own.
 -- Assumes nothing.
-use Prim.Native.Nat.{ℕ, zero, suc, _+_, _*_, _<_}
-use native.Mathlib.Nat.{suc-mul, add-comm, le-refl}
+use Prim.Native.Nat.{ℕ, suc, _<_}
+use native.Mathlib.Nat.{le-refl}
 use native.Mathlib.Omega.{arith}
 use mathlib.Core.Bool.{true, _||_, or-true}
-use mathlib.Core.Path.{_≡_, refl, _∙_}
+use mathlib.Core.Path.{_≡_, refl}
 use mathlib.Core.List.{List}
-use lib.ListN.{length, getD, set, replicate, length-set, length-replicate, length-take, length-drop, replicate-append-replicate}
-use lib.Seq.{set-out, take-at, drop-at}
-use lib.Dec.{leb}
-use borrow.Author.Tests.{eqb-true, not-false}
+use lib.ListN.{length, getD, set, length-set, length-replicate}
+use lib.Seq.{set-out}
+use borrow.Author.Tests.{not-false}
 use Rattle.rules.specs.declared.Run.{Run}
 use Rattle.rules.specs.declared.Parcel.{Parcel}
 use Rattle.rules.specs.declared.Ledger.{Ledger}
-use Rattle.rules.specs.declared.Sight.{Sight}
 use Rattle.rules.specs.declared.Step.{Step}
 use Rattle.rules.specs.declared.Step.the-variants.{Add, Remove, Query, Send, Merge, Deliver, Again, Lose}
 use Rattle.rules.specs.Lengths.{M, afterAdd, join}
-use Rattle.rules.specs.Table.{sound, unused, soundFrom, lengthOf}
-use Rattle.rules.specs.View.{parts}
+use Rattle.rules.specs.Table.{sound, lengthOf}
+use Rattle.rules.specs.View.{Unused}
 use Rattle.rules.specs.Law.{of-most}
+use Rattle.rules.specs.Zeros.{zeros-unused, zeros-sound}
 use Rattle.rules.specs.Operations.{addTable, absorbTable, removeTable, mergeTable}
 use Rattle.rules.specs.OperationLaws.{add-sound, absorb-sound, raise-length, remove-sound, remove-length, merge-sound, merge-length}
 use Rattle.rules.specs.Parcels.{noParcel, isFree, isOccupied, slotsSound, waiting, lowestFree}
 use Rattle.rules.specs.Ledgers.{ledgerSound, raisedLedger, emptyLedger, sentCounter, copiedCounter, absorbedCounter, lostCounter, raisedIf}
 use Rattle.rules.specs.Runs.{State, width, tableAt, withTable, sizesRight, tablesSound, slotOf, sightOf, wordsIn, placeIn, parcelIn, counterOf, refusalOf, moved, after, freshRefusal, empty, afterFresh}
 use Rattle.rules.specs.Histories.{siteIn}
-use Rattle.rules.specs.Sites.{part-fits, tables-at, with-length, with-other, with-sound}
 use Rattle.rules.specs.SlotLaws.{occupied-by, occupied-has, occupied-not-free, set-slots-sound, waiting-taken, waiting-freed, lowest-free, cleared-sound, cleared-length, cleared-waiting}
 use Rattle.rules.specs.LedgerLaws.{balanced-sound, sent-sound, copied-sound, absorbed-sound, lost-sound}
 use Rattle.rules.specs.RunLaws.{StateSound, pass, after-keeps, accepted-sound, add-own, remove-own, merge-own, send-own, deliver-own, again-own, lose-own}
+pub use Rattle.rules.specs.SiteTables.{words-long}
+use Rattle.rules.specs.SiteTables.{site-sound, put-elsewhere, put-as-many, put-sound}
 
 -- ---- a fresh run
--- zeros are unused places
-zeros-unused : (c : ℕ) → unused (replicate (2 * c) 0) ≡ true
-unfolding unused
-zeros-unused zero = refl
-zeros-unused (suc c) =
-    let e : 2 * suc c ≡ suc (suc (2 * c)) = omega arith in
-    rw e (zeros-unused c)
-
--- so a table of zeros is sound
-zeros-sound : (most c : ℕ) → sound most (replicate (2 * c) 0) ≡ true
-unfolding soundFrom unused
-zeros-sound most zero = refl
-zeros-sound most (suc c) =
-    let e : 2 * suc c ≡ suc (suc (2 * c)) = omega arith in
-    rw e (zeros-unused c)
-
--- and so are all tables of zeros
-zeros-tables : (most c n : ℕ) → tablesSound most (2 * c) n (replicate (n * (2 * c)) 0) ≡ true
-unfolding tablesSound
-zeros-tables most c zero = refl
-zeros-tables most c (suc n) =
-    let e : suc n * (2 * c) ≡ 2 * c + n * (2 * c) = suc-mul n (2 * c) ∙ add-comm (n * (2 * c)) (2 * c) in
-    rw (
-      e,
-      ← replicate-append-replicate {A = ℕ} (2 * c) (n * (2 * c)) 0,
-      take-at (replicate (2 * c) 0) (replicate (n * (2 * c)) 0) (2 * c) (length-replicate {A = ℕ} (2 * c) 0),
-      drop-at (replicate (2 * c) 0) (replicate (n * (2 * c)) 0) (2 * c) (length-replicate {A = ℕ} (2 * c) 0),
-      zeros-sound most c,
-    )
-    (zeros-tables most c n)
-
--- the words of right sizes are as many as the tables take
-pub words-long : (run : Run) (words slots : ℕ) → sizesRight run words slots ≡ true → words ≡ run .sites * width run
-unfolding sizesRight
-words-long run words slots h =
-    let a = parts (leb 1 (run .sites)) _ h in
-    let b = parts (leb (run .sites) 16) _ (a .1) in
-    let d = parts (leb (run .capacity) 2048) _ (b .1) in
-    let e = parts (leb slots 1024) _ (d .1) in
-    eqb-true _ _ (e .1)
-
 -- an empty ledger balances where nothing waits
 empty-sound : (most : ℕ) → ledgerSound most 0 emptyLedger ≡ true
 empty-sound most = balanced-sound most 0 emptyLedger (omega arith)
@@ -85,7 +44,7 @@ fresh-sizes run s h = not-false _ (pass 0 _ _ h .0)
 empty-state-sound : (run : Run) (s : State) → sizesRight run (length (s .words)) (length (s .slots)) ≡ true → StateSound run (empty s)
 empty-state-sound run s h = (
   rw (length-replicate {A = ℕ} (length (s .words)) 0, cleared-length (s .slots)) h,
-  rw (words-long run _ _ h) (zeros-tables M (run .capacity) (run .sites)),
+  rw (words-long run _ _ h) (zeros-sound (run .capacity) (run .sites) M),
   cleared-sound M (run .sites) (s .slots),
   rw (cleared-waiting (s .slots)) (empty-sound M),
 )
@@ -95,6 +54,11 @@ pub fresh-sound : (run : Run) (s : State) → freshRefusal run (length (s .words
 unfolding afterFresh
 fresh-sound run s h = rw h (empty-state-sound run s (fresh-sizes run s h))
 
+-- and no place of its tables is in use
+pub fresh-unused : (run : Run) (s : State) → freshRefusal run (length (s .words)) (length (s .slots)) ≡ 0 → (k : ℕ) → Unused (tableAt run (afterFresh run s .words) k)
+unfolding afterFresh tableAt
+fresh-unused run s h k = rw (h, words-long run _ _ (fresh-sizes run s h)) (zeros-unused (run .capacity) (run .sites) k)
+
 -- ---- the words after an accepted step
 -- the words are as many, every table of them is sound, and the tables of the other sites are as they were
 pub record Kept (run : Run) (ws : List ℕ) (k : ℕ) (vs : List ℕ) : Type 0 where
@@ -102,78 +66,57 @@ pub record Kept (run : Run) (ws : List ℕ) (k : ℕ) (vs : List ℕ) : Type 0 w
   pub all-sound : tablesSound M (width run) (run .sites) vs ≡ true
   pub others : (j : ℕ) → (j ≡ k → ⊥) → tableAt run vs j ≡ tableAt run ws j
 
-module _ (run : Run) (ws : List ℕ) (long : length ws ≡ run .sites * width run) (all : tablesSound M (width run) (run .sites) ws ≡ true) where
-  table-sound : (k : ℕ) → k < run .sites → sound M (tableAt run ws k) ≡ true
-  unfolding tableAt
-  table-sound k h = tables-at M (width run) (run .sites) ws all k h
-
-  table-length : (k : ℕ) → k < run .sites → length (tableAt run ws k) ≡ width run
-  unfolding tableAt
-  table-length k h = simp (length-take, length-drop) (omega (arith, part-fits k (run .sites) (width run) h))
-
-  kept-same : (k : ℕ) → Kept run ws k ws
-  kept-same k = record { as-many = refl; all-sound = all; others = λ j ne. refl }
-
-  -- a sound table of the same length put in
-  kept-with : (k : ℕ) → k < run .sites → (t : List ℕ) → sound M t ≡ true → length t ≡ length (tableAt run ws k) → Kept run ws k (withTable run ws k t)
-  kept-with k h t ok size =
-      let w : length t ≡ width run = size ∙ table-length k h in
-      record {
-        as-many = with-length run ws t k (run .sites) h long w;
-        all-sound = with-sound run ws t k (run .sites) h long w M all ok;
-        others = λ j ne. with-other run ws t k (run .sites) h long w j ne;
-      }
+-- a sound table of the same length put in
+kept-with : (run : Run) (s : State) → StateSound run s → (k : ℕ) → k < run .sites → (t : List ℕ) → sound M t ≡ true → length t ≡ length (tableAt run (s .words) k)
+    → Kept run (s .words) k (withTable run (s .words) k t)
+kept-with run s so k h t ok size = record {
+  as-many = put-as-many run s so k h t size;
+  all-sound = put-sound run s so k h t size ok;
+  others = put-elsewhere run s so k h t size;
+}
 
 -- sound slots and a ledger that balances with them
 abbrev pub Counted : Run → List Parcel → Ledger → Type 0
 Counted run ss l = (slotsSound M (run .sites) ss ≡ true) × (ledgerSound M (waiting ss) l ≡ true)
 
 module _ (run : Run) (s : State) where
+  -- no table put in
+  unchanged : (step : Step) → refusalOf run s step ≡ 0 → Kept run (s .words) (run .sites) (s .words)
+  unchanged step h = record { as-many = refl; all-sound = accepted-sound run s step h .1; others = λ j ne. refl }
+
   kept-words : (step : Step) → refusalOf run s step ≡ 0 → Kept run (s .words) (siteIn run (sightOf run s step) step) (wordsIn run (s .words) (sightOf run s step) step)
   unfolding wordsIn siteIn slotOf
   kept-words (Add k e) h =
       let so = accepted-sound run s (Add k e) h in
-      let long = words-long run _ _ (so .0) in
       let p = add-own run s k e h in
-      let ok = table-sound run (s .words) long (so .1) k p in
-      kept-with run (s .words) long (so .1) k p (addTable (tableAt run (s .words) k) e)
+      let ok = site-sound run s so k p in
+      kept-with run s so k p (addTable (tableAt run (s .words) k) e)
       (add-sound M refl (tableAt run (s .words) k) e ok) (raise-length M (tableAt run (s .words) k) e (afterAdd (lengthOf (tableAt run (s .words) k) e)) ok)
   kept-words (Remove k e) h =
       let so = accepted-sound run s (Remove k e) h in
-      let long = words-long run _ _ (so .0) in
       let p = remove-own run s k e h in
-      let ok = table-sound run (s .words) long (so .1) k p in
-      kept-with run (s .words) long (so .1) k p (removeTable M (tableAt run (s .words) k) e)
+      let ok = site-sound run s so k p in
+      kept-with run s so k p (removeTable M (tableAt run (s .words) k) e)
       (remove-sound M (tableAt run (s .words) k) e ok) (remove-length M (tableAt run (s .words) k) e ok)
-  kept-words (Query k e) h =
-      let so = accepted-sound run s (Query k e) h in
-      kept-same run (s .words) (words-long run _ _ (so .0)) (so .1) (run .sites)
-  kept-words (Send f t e) h =
-      let so = accepted-sound run s (Send f t e) h in
-      kept-same run (s .words) (words-long run _ _ (so .0)) (so .1) (run .sites)
+  kept-words (Query k e) h = unchanged (Query k e) h
+  kept-words (Send f t e) h = unchanged (Send f t e) h
   kept-words (Merge f t) h =
       let so = accepted-sound run s (Merge f t) h in
-      let long = words-long run _ _ (so .0) in
       let p = merge-own run s f t h in
-      let from = table-sound run (s .words) long (so .1) f (p .0) in
-      let to = table-sound run (s .words) long (so .1) t (p .1) in
-      kept-with run (s .words) long (so .1) t (p .1) (mergeTable (tableAt run (s .words) t) (tableAt run (s .words) f))
+      let from = site-sound run s so f (p .0) in
+      let to = site-sound run s so t (p .1) in
+      kept-with run s so t (p .1) (mergeTable (tableAt run (s .words) t) (tableAt run (s .words) f))
       (merge-sound M (tableAt run (s .words) t) (tableAt run (s .words) f) to from) (merge-length M (tableAt run (s .words) t) (tableAt run (s .words) f) to from)
   kept-words (Deliver i) h =
       let so = accepted-sound run s (Deliver i) h in
-      let long = words-long run _ _ (so .0) in
       let q = getD (s .slots) i noParcel in
       let o = occupied-has M (run .sites) q (deliver-own run s i h .1) in
       let t = tableAt run (s .words) (q .site) in
-      let ok = table-sound run (s .words) long (so .1) (q .site) (o .2) in
-      kept-with run (s .words) long (so .1) (q .site) (o .2) (absorbTable t (q .id) (q .length))
+      let ok = site-sound run s so (q .site) (o .2) in
+      kept-with run s so (q .site) (o .2) (absorbTable t (q .id) (q .length))
       (absorb-sound M t (q .id) (q .length) (o .1) ok) (raise-length M t (q .id) (join (lengthOf t (q .id)) (q .length)) ok)
-  kept-words (Again i) h =
-      let so = accepted-sound run s (Again i) h in
-      kept-same run (s .words) (words-long run _ _ (so .0)) (so .1) (run .sites)
-  kept-words (Lose i) h =
-      let so = accepted-sound run s (Lose i) h in
-      kept-same run (s .words) (words-long run _ _ (so .0)) (so .1) (run .sites)
+  kept-words (Again i) h = unchanged (Again i) h
+  kept-words (Lose i) h = unchanged (Lose i) h
 
   -- ---- the slots and the ledger after an accepted step
   -- nothing stored and nothing counted
@@ -208,7 +151,7 @@ module _ (run : Run) (s : State) where
   kept-slots (Send f t e) h =
       let so = accepted-sound run s (Send f t e) h in
       let own = send-own run s f t e h in
-      let table = table-sound run (s .words) (words-long run _ _ (so .0)) (so .1) f (own .0) in
+      let table = site-sound run s so f (own .0) in
       let p : Parcel = record { site = t; id = e; length = lengthOf (tableAt run (s .words) f) e } in
       stored (Send f t e) p (raisedLedger M sentCounter (s .ledger)) h (own .3)
       (occupied-by M (run .sites) p (own .2) (of-most M (tableAt run (s .words) f) table e) (own .1))

@@ -1,23 +1,21 @@
 -- Writing a step and reading it back, reading a line and writing it back, how long a line can be, and the eight forms as document 01 lists them.
 -- Assumes nothing.
-use Prim.Native.Nat.{ℕ, zero, suc, _+_, _^_, _≤_, _<_}
+use Prim.Native.Nat.{ℕ, zero, suc, _^_, _≤_, _<_}
 use native.Mathlib.Omega.{arith}
 use mathlib.Core.Path.{_≡_, refl, sym, ap, _∙_}
-use mathlib.Core.Bool.{Bool, true, false, cond}
-use mathlib.Core.List.{List, [], _∷_, _++_, append-nil}
+use mathlib.Core.Bool.{true}
+use mathlib.Core.List.{List, _++_, append-nil}
 use lib.ListN.{length, getD, length-append}
-use lib.Dec.{eqb}
 use Rattle.rules.specs.declared.Step.{Step}
 use Rattle.rules.specs.declared.Step.the-variants.{Add, Remove, Query, Send, Merge, Deliver, Again, Lose}
 use Rattle.rules.specs.declared.Line.{Line}
 use Rattle.rules.specs.declared.Line.the-variants.{Numbers, NoLine}
-use Rattle.rules.specs.declared.Named.{Named}
 use Rattle.rules.specs.declared.Named.the-variants.{Is, NoStep}
 use Rattle.rules.specs.Text.{ascii}
 use Rattle.rules.specs.Number.{upTo, digits}
 use Rattle.rules.specs.NumberLaws.{by-test, digits-length}
-use Rattle.rules.specs.Lines.{lead, toName, idName, hasSecond, hasId, field, textOf, namesStep, numbersOf}
-use Rattle.rules.specs.LineLaws.{written-read, Written, read-written, step-says}
+use Rattle.rules.specs.Lines.{lead, field, textOf, namesStep, numbersOf}
+use Rattle.rules.specs.LineLaws.{written-read, read-written, step-says}
 use Rattle.rules.specs.StepLines.{steps, stepFor, stepIn, lineOf, stepOf}
 
 -- ---- the eight forms, as document 01 lists them

@@ -1,8 +1,8 @@
 -- What the writer of step lines writes, and what it answers. "A kind outside 1 to 8, or an unused number that isn't 0, is 11; then too short a
 -- buffer is 13. Either way: an empty part, nothing written."
 -- Assumes nothing.
-use mathlib.Core.Path.{_≡_, sym, ap, _∙_}
-use mathlib.Core.Bool.{Bool, not, cond}
+use mathlib.Core.Path.{_≡_, ap, _∙_}
+use mathlib.Core.Bool.{not, cond}
 use mathlib.Core.List.{List, [], _∷_}
 use Prim.Native.Nat.{ℕ}
 use lib.Dec.{ltb, eqb}

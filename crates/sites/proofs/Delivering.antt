@@ -1,38 +1,29 @@
 -- Delivering an update: its refusals at known tests, and what the table's answer makes of it.
 -- Assumes nothing.
-use Prim.Native.Nat.{ℕ, zero, suc, _≤_, _<_}
-use mathlib.Core.Bool.{Bool, true, false, cond, not, _||_, _&&_}
-use mathlib.Core.Path.{_≡_, refl, sym, ap, _∙_}
+use Prim.Native.Nat.{ℕ, zero, suc, _<_}
+use mathlib.Core.Bool.{true, false}
+use mathlib.Core.Path.{_≡_, refl}
 use mathlib.Core.List.{List}
-use lib.Dec.{leb, ltb, eqb}
-use borrow.Author.Tests.{ltb-true, eq-eqb, ne-eqb, not-false}
+use lib.Dec.{leb}
+use borrow.Author.Tests.{eq-eqb, ne-eqb, not-false}
 use Rattle.rules.specs.declared.Run.{Run}
 use Rattle.rules.specs.declared.Answer.{Answer}
-use Rattle.rules.specs.declared.Parcel.{Parcel}
 use Rattle.rules.specs.declared.Sight.{Sight}
-use Rattle.rules.specs.declared.Step.{Step}
 use Rattle.rules.specs.declared.Step.the-variants.{Deliver}
 use Rattle.rules.specs.Lengths.{M}
-use Rattle.rules.specs.View.{parts}
-use Rattle.rules.specs.Table.{lengthOf, heldWith, raised}
-use Rattle.rules.specs.Operations.{answer, crowded, raiseRefusal, raiseAnswer, raiseTable, absorbAnswer, absorbTable}
-use Rattle.rules.specs.Parcels.{noParcel, isOccupied}
+use Rattle.rules.specs.Table.{raised}
+use Rattle.rules.specs.Operations.{answer, raiseRefusal, raiseAnswer, raiseTable, absorbAnswer, absorbTable}
+use Rattle.rules.specs.Parcels.{noParcel}
+use Rattle.rules.specs.SlotLaws.{occupied-has}
 use Rattle.rules.specs.Ledgers.{absorbedCounter}
 use Rattle.rules.specs.Runs.{tableAt, withTable, firstGiven, nothingThere, noRoom, lengthDelivered, valueIn, wordsIn, placeIn, parcelIn, counterOf}
+use Rattle.rules.specs.RunLaws.{neither}
 use Rattle.sites.specs.Verdicts.{refusedVerdict, verdict, delivered, stepRefusal, stepVerdict, stepWords}
 use Rattle.sites.proofs.Tables.{kept}
 
 -- ---- a parcel that is there has a site of the run
-neither : (a b : Bool) → a || b ≡ false → b ≡ false
-neither true b h = absurd (mathlib.Core.Bool.false≢true (sym h))
-neither false b h = h
-
 pub its-site : (run : Run) (si : Sight) (i : ℕ) → nothingThere run si i ≡ false → si .named .site < run .sites
-unfolding isOccupied
-its-site run si i h =
-    let occupied = not-false _ (neither (leb (si .count) i) _ h) in
-    let a = parts (leb 1 (si .named .length)) _ occupied in
-    ltb-true _ _ (parts (leb (si .named .length) M) _ (a .1) .1)
+its-site run si i h = occupied-has M (run .sites) (si .named) (not-false _ (neither (leb (si .count) i) _ h .1)) .2
 
 -- ---- the verdict by the table's answer
 pub settle-taken : (a : Answer) (slot count : ℕ) → a .refusal ≡ 0 → record { refusal = 0; value = a .value; counter = absorbedCounter; at = slot; parcel = noParcel } ≡ delivered a slot count

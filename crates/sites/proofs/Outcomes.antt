@@ -4,14 +4,13 @@
 use Prim.Native.Nat.{ℕ, zero, suc}
 use native.Mathlib.Nat.{le-refl}
 use native.Mathlib.Omega.{arith}
-use mathlib.Core.Bool.{Bool, true, false, cond}
-use mathlib.Core.Path.{_≡_, refl, sym, ap, _∙_}
+use mathlib.Core.Bool.{cond}
+use mathlib.Core.Path.{_≡_, refl}
 use mathlib.Core.List.{List}
 use lib.Dec.{eqb}
 use lib.ListN.{length, set, getD, replicate}
 use lib.Seq.{set-out}
 use borrow.Author.Tests.{ne-eqb}
-use Rattle.rules.specs.declared.Answer.{Answer}
 use Rattle.rules.specs.declared.Ledger.{Ledger}
 use Rattle.rules.specs.declared.Parcel.{Parcel}
 use Rattle.rules.specs.declared.Run.{Run}
@@ -19,21 +18,14 @@ use Rattle.rules.specs.declared.Scan.{Scan}
 use Rattle.rules.specs.declared.Step.{Step}
 use Rattle.rules.specs.Lengths.{M}
 use Rattle.rules.specs.Operations.{answer, unlessRefused}
-use Rattle.rules.specs.Ledgers.{raisedLedger, raisedIf, emptiedIf, emptyLedger, noCounter}
+use Rattle.rules.specs.Ledgers.{raisedLedger, emptiedIf}
+use Rattle.rules.specs.LedgerLaws.{raised-none}
 use Rattle.rules.specs.Parcels.{noParcel, scanOf, cleared}
-use Rattle.rules.specs.Runs.{State, lent, slotOf, sightOf, refusalIn, valueIn, wordsIn, placeIn, parcelIn, counterOf, refusalOf, valueOf, answerOf, moved, stateBy, after, freshRefusal, empty, afterFresh, Stepped, Freshened}
+use Rattle.rules.specs.Runs.{lent, slotOf, sightOf, refusalIn, wordsIn, refusalOf, valueOf, stateBy, after, freshRefusal, empty, afterFresh, Stepped, Freshened}
 use Rattle.sites.specs.declared.verdict.Verdict.{Verdict}
-use Rattle.sites.specs.Verdicts.{seenAs, verdict, verdictBy, verdictOf, wordsOf, answerIn, freshWords, slotsToClear}
-
--- counter 0 raises nothing
-raised-none : (l : Ledger) → raisedLedger M noCounter l ≡ l
-unfolding raisedIf
-raised-none l = refl
+use Rattle.sites.specs.Verdicts.{verdictBy, verdictOf, wordsOf, answerIn, freshWords, slotsToClear}
 
 module _ (run : Run) (ws : List ℕ) (ss : List Parcel) (l : Ledger) (step : Step) where
-  s : State
-  s = lent ws ss l
-
   -- the verdict on what is lent, by its refusal
   by-refusal : (r : ℕ) → refusalOf run (lent ws ss l) step ≡ r → (v : Verdict) → v ≡ verdictBy (refusalIn run ws (sightOf run (lent ws ss l) step) step) run ws (sightOf run (lent ws ss l) step) step
       → (ws′ : List ℕ) → ws′ ≡ unlessRefused (refusalIn run ws (sightOf run (lent ws ss l) step) step) ws (wordsIn run ws (sightOf run (lent ws ss l) step) step)
@@ -45,7 +37,7 @@ module _ (run : Run) (ws : List ℕ) (ss : List Parcel) (l : Ledger) (step : Ste
   }
   by-refusal (suc r) z v e ws′ f = record {
     answer = rw (e, z) refl;
-    state = rw (e, f, z, set-out ss (length ss) noParcel (le-refl (length ss)), raised-none l) refl;
+    state = rw (e, f, z, set-out ss (length ss) noParcel (le-refl (length ss)), raised-none M l) refl;
   }
 
 pub stepped : (sizes : Run) (ws : List ℕ) (ss : List Parcel) (l : Ledger) (asked : Step) (at : ℕ) (held : Parcel) (scan : Scan) (v : Verdict) (ws′ : List ℕ) (ss′ : List Parcel) (l′ : Ledger)
