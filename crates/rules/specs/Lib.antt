@@ -54,6 +54,7 @@ pub mod Calls
 pub mod Promises
 pub mod ReportParts
 pub mod ReportLaws
+pub mod ReportPlaces
 pub mod ReportPieces
 pub mod ReportSteps
 pub mod ReportCases

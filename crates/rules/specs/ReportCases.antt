@@ -1,10 +1,11 @@
 -- The sample of document 01, byte for byte, and how lines, pieces and limits are counted, computed from the definitions as they stand.
 -- Assumes nothing.
 use Prim.Native.Nat.{ℕ, _≤_, _<_}
-use mathlib.Core.Bool.{true}
+use mathlib.Core.Bool.{true, false}
 use mathlib.Core.Path.{_≡_, refl, sym, ap, _∙_}
 use mathlib.Core.List.{List, [], _∷_, _++_}
 use lib.ListN.{length}
+use lib.Dec.{ltb}
 use borrow.Author.Tests.{lt-ltb, le-ltb}
 use Rattle.rules.specs.Lengths.{listed, afterAdd, afterRemove}
 use Rattle.rules.specs.Table.{unused, soundFrom, lengthOf, held, push, withLength, raised, heldWith, merged, newIds, rises}
@@ -16,7 +17,7 @@ use Rattle.rules.specs.Text.{ascii, behind}
 use Rattle.rules.specs.Number.{upTo, digits, digitOf, digitRun, fair, judged, readNumber}
 use Rattle.rules.specs.Lines.{lead, field, textOf, namesStep, firstOf, kindOf, readField, numbersOf}
 use Rattle.rules.specs.StepLines.{stepFor, stepIn, lineOf, stepOf}
-use Rattle.rules.specs.Reports.{reportStart, refusedLine, queryLine, ledgerLines, siteLine, siteLines, endLines, acceptedLine, saidOf, stateOf, lastPiece, reportOf, reportRefusal, printedOf}
+use Rattle.rules.specs.Reports.{reportStart, refusedLine, queryLine, ledgerLines, siteLine, siteLines, endLines, acceptedLine, saidOf, stateOf, lastPiece, reportOf, inputLimit, reportRefusal, printedOf}
 use Rattle.rules.specs.ReportPieces.{unbroken, joined, allUnbroken, piecesFrom, report-of-pieces}
 use Rattle.rules.specs.ReportSteps.{linesOf, fits, allFit, steps-fit, stepsFrom, report-of-steps}
 use Rattle.rules.specs.Sample.{sampleSteps}
@@ -105,9 +106,9 @@ limit-cases = record { longest = refl; too-long = refl; too-long-first = refl; t
 -- "An input over 32,768 bytes prints only `refused=12`", as a line
 pub printed-over : (input : List ℕ) → 32768 < length input → printedOf input ≡ ascii "refused=12\n"
 unfolding printedOf
-printed-over input h = rw (lt-ltb 32768 (length input) h)
+printed-over input h = let over : ltb inputLimit (length input) ≡ true = lt-ltb inputLimit (length input) h in rw over
 
 -- "Otherwise it prints" the report
 pub printed-whole : (input : List ℕ) → length input ≤ 32768 → printedOf input ≡ reportOf input
 unfolding printedOf
-printed-whole input h = rw (le-ltb 32768 (length input) h)
+printed-whole input h = let within : ltb inputLimit (length input) ≡ false = le-ltb inputLimit (length input) h in rw within
