@@ -57,7 +57,8 @@ sample-report = ap reportOf (sym sample-lines) ∙ report-of-steps sampleSteps (
 abbrev pub emptyEnd : List ℕ
 emptyEnd = ascii "sent=0\ncopied=0\nabsorbed=0\nlost=0\nwaiting=0\nnode=0 shown=0\nnode=1 shown=0\nnode=2 shown=0\n"
 
--- ---- how lines and pieces are counted, and the ends of reports
+-- ---- how lines and pieces are counted, and the ends of reports. Each row is computed over its pieces: taken byte by byte, the
+-- work of the checker about doubles with every byte
 pub record ReportCases : Type 0 where
   -- no input
   pub nothing : reportOf [] ≡ emptyEnd

@@ -43,12 +43,12 @@ unfolding reportFrom lastPiece
 report-unended n s [] h = absurd (omega arith)
 report-unended n s (c ∷ cs) h = refl
 
--- what the whole is made of
+-- the whole: from line 1 on, in a fresh run
 pub report-starts : (input : List ℕ) → reportOf input ≡ reportFrom 1 reportStart [] input
 unfolding reportOf
 report-starts input = refl
 
--- ---- "a report fits": no byte of the input earns more than 22 bytes
+-- ---- a report fits its room: no byte of the input earns more than 22 bytes
 -- the line of a query has at least 20 bytes
 query-long : (k e : ℕ) → 20 ≤ length (lineOf (Query k e))
 query-long k e = rw (query-line k 0 e) (simp (length-append) (omega arith))
@@ -89,14 +89,14 @@ unfolding reportFrom
 report-within n s line [] p = simp (length-append) (omega (arith, last-within n line (omega arith), end-within s))
 report-within n s line (c ∷ cs) p =
     by-test (eqb c lineEnd)
-    (λ y.
+    (λ ends.
     let said : length (saidOf n s (stepOf line)) ≤ 22 * (length line + 1) = said-within n s line (omega arith) in
     let rest : length (reportFrom (suc n) (stateOf s (stepOf line)) [] cs) ≤ 22 * (0 + length cs) + 187 = report-within (suc n) (stateOf s (stepOf line)) [] cs (omega arith) in
-    rw (y, length-append) (omega arith))
-    (λ n′.
+    rw (ends, length-append) (omega arith))
+    (λ more.
     let rest : length (reportFrom n s (line ++ (c ∷ [])) cs) ≤ 22 * (length (line ++ (c ∷ [])) + length cs) + 187 = report-within n s (line ++ (c ∷ [])) cs (omega arith) in
     let long : length (line ++ (c ∷ [])) ≡ length line + 1 = length-append line (c ∷ []) in
-    rw n′ (omega arith))
+    rw more (omega arith))
 
 -- the report of an input within the limit fits the room that is asked of the buffer
 pub report-fits : (input : List ℕ) → length input ≤ inputLimit → length (reportOf input) ≤ reportRoom (length input)

@@ -6,14 +6,15 @@ use native.Mathlib.Nat.{le-refl}
 use native.Mathlib.Omega.{arith}
 use mathlib.Core.Path.{_≡_, refl, sym, ap, _∙_}
 use mathlib.Core.List.{List, [], _∷_, _++_}
-use lib.ListN.{length, getD, take, drop, length-append}
+use lib.ListN.{length, replicate, getD, take, drop, length-append}
 use lib.Seq.{slice, slice-empty, length-slice, drop-length, length-take-le, take-suc, drop-cons, drop-append-le}
+use Rattle.rules.specs.declared.Parcel.{Parcel}
 use Rattle.rules.specs.declared.Named.{Named}
 use Rattle.rules.specs.declared.Named.the-variants.{Is, NoStep}
 use Rattle.rules.specs.Table.{unused, soundFrom}
-use Rattle.rules.specs.Parcels.{isFree, isOccupied, slotsSound, waiting}
+use Rattle.rules.specs.Parcels.{noParcel, cleared, isFree, isOccupied, slotsSound, waiting}
 use Rattle.rules.specs.Ledgers.{ledgerSound}
-use Rattle.rules.specs.Runs.{State, sizesRight, tablesSound}
+use Rattle.rules.specs.Runs.{State, firstGiven, freshRefusal, afterFresh, sizesRight, tablesSound}
 use Rattle.rules.specs.RunLaws.{StateSound}
 use Rattle.rules.specs.SoundRuns.{after-sound}
 use Rattle.rules.specs.StepLines.{stepOf}
@@ -63,7 +64,18 @@ next-fits told next rest whole room e h =
     let all : length told + length (next ++ rest) ≡ length whole = sym (length-append told (next ++ rest)) ∙ ap length e in
     omega (arith, length-append next rest)
 
--- ---- the states of a report are sound, so no line of it tells of 1 or 2
+-- ---- the states of a report
+all-cleared : (ps : List Parcel) → cleared (length ps) ps ≡ replicate (length ps) noParcel
+unfolding cleared
+all-cleared [] = refl
+all-cleared (p ∷ ps) = ap (λ (l : List Parcel). noParcel ∷ l) (all-cleared ps)
+
+-- "from fresh": whatever 48 words, 8 slots and ledger are made fresh, the run begins where a report begins
+pub start-fresh : (s : State) → length (s .words) ≡ 48 → length (s .slots) ≡ 8 → afterFresh reportRun s ≡ reportStart
+unfolding freshRefusal firstGiven sizesRight afterFresh
+start-fresh s w k = rw (all-cleared (s .slots), w, k)
+
+-- they are sound, so no line of a report tells of 1 or 2
 pub start-sound : StateSound reportRun reportStart
 unfolding unused soundFrom isFree isOccupied slotsSound waiting ledgerSound sizesRight tablesSound
 start-sound = (refl, refl, refl, refl)
