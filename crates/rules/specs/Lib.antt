@@ -58,3 +58,4 @@ pub mod ReportPlaces
 pub mod ReportPieces
 pub mod ReportSteps
 pub mod ReportCases
+pub mod MemberLaws
