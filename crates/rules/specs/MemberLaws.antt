@@ -126,6 +126,10 @@ pub answers-length : (t ids : List ℕ) → length (answersOf t ids) ≡ bytesFo
 unfolding answersOf
 answers-length t ids = bytes-length t (bytesFor (length ids)) ids
 
+pub answers-lt : (t ids : List ℕ) (j : ℕ) → getD (answersOf t ids) j 0 < 256
+unfolding answersOf
+answers-lt t ids j = bytes-lt t (bytesFor (length ids)) ids j
+
 -- ---- the buffer
 put-behind : (out bytes : List ℕ) → drop (length bytes) (put out 0 bytes) ≡ drop (length bytes) out
 unfolding put

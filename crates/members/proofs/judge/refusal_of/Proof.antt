@@ -1,39 +1,54 @@
+-- `members::judge::refusal_of`: test by test, in the order of the section on bulk membership.
+-- Assumes nothing.
+use Prim.Native.Nat.{_≤_, _<_}
+use mathlib.Core.Path.{_≡_, sym, _∙_}
+use borrow.Author.Tests.{lt-ltb, le-ltb, not-true, not-false}
+use Rattle.rules.specs.Runs.{firstGiven}
+use Rattle.rules.specs.Members.{bytesFor, membersRefusal}
 use native.Mathlib.Omega.{arith}
 use borrow.Author.Needs.{needs}
 use Rattle.members.proofs.judge.refusal_of.Statement.{statement}
 use Rattle.members.proofs.judge.refusal_of.Tie as tie
-use Rattle.members.proofs.judge.refusal_of.Reads as reads
-use Rattle.members.proofs.judge.refusal_of.Lts as lts
-use Rattle.members.proofs.judge.bytes_for.Reads as bytes-for-reads
-use Rattle.table.proofs.sound.Reads as sound-reads
 
--- src/judge.rt:19:9
 returns : tie.Need-returns
-returns c = search needs
+unfolding membersRefusal firstGiven
+returns c = rw (c .if1 .taken)
 
--- src/judge.rt:21:9
 sound-requires : tie.Need-sound-requires
 sound-requires c κs = search needs
 
--- src/judge.rt:22:9
 returns-2 : tie.Need-returns-2
-returns-2 c = search needs
+unfolding membersRefusal firstGiven
+returns-2 c = rw (c .before .before .if1 .left, sym (c .before .sound .ensures) ∙ not-true _ (c .if2 .taken))
 
--- src/judge.rt:25:9
 returns-3 : tie.Need-returns-3
-returns-3 c = search needs
+unfolding membersRefusal firstGiven
+returns-3 c =
+    let s = c .before .before in
+    rw (s .before .if1 .left, sym (s .sound .ensures) ∙ not-false _ (c .before .if2 .left), lt-ltb 4096 _ (c .if3 .taken))
 
--- src/judge.rt:27:15
 bytes-for-requires : tie.Need-bytes-for-requires
 bytes-for-requires c κs = search needs
 
--- src/judge.rt:28:9
 returns-4 : tie.Need-returns-4
-returns-4 c = search needs
+unfolding membersRefusal firstGiven
+returns-4 c =
+    let e = c .before .before in
+    let s = e .before .before in
+    let a = s .before .before .before .args in
+    let room : a .room < bytesFor (a .ids) = omega (arith, c .if4 .taken, c .before .bytes-for .ensures) in
+    rw
+    (s .before .if1 .left, sym (s .sound .ensures) ∙ not-false _ (e .before .if2 .left), le-ltb 4096 (a .ids) (e .if3 .left), lt-ltb (a .room) (bytesFor (a .ids)) room)
 
--- src/judge.rt:15:1
 returns-5 : tie.Need-returns-5
-returns-5 c = search needs
+unfolding membersRefusal firstGiven
+returns-5 c =
+    let e = c .before .before in
+    let s = e .before .before in
+    let a = s .before .before .before .args in
+    let room : bytesFor (a .ids) ≤ a .room = omega (arith, c .if4 .left, c .before .bytes-for .ensures) in
+    rw
+    (s .before .if1 .left, sym (s .sound .ensures) ∙ not-false _ (e .before .if2 .left), le-ltb 4096 (a .ids) (e .if3 .left), le-ltb (a .room) (bytesFor (a .ids)) room)
 
 pub refusal-of-spec : {M : Type 1} → statement M
 refusal-of-spec =

@@ -1,23 +1,19 @@
-use native.Mathlib.Omega.{arith}
+-- `members::one::is_member`: the length that the table has, and whether that is listed.
+-- Assumes nothing.
+use mathlib.Core.Path.{_≡_, ap, _∙_}
 use borrow.Author.Needs.{needs}
+use Rattle.rules.specs.Lengths.{listed}
 use Rattle.members.proofs.one.is_member.Statement.{statement}
 use Rattle.members.proofs.one.is_member.Tie as tie
-use Rattle.members.proofs.one.is_member.Reads as reads
-use Rattle.members.proofs.one.is_member.Lts as lts
-use Rattle.lengths.proofs.listed.Reads as listed-reads
-use Rattle.table.proofs.query.Reads as query-reads
 
--- src/one.rt:11:21
 query-requires : tie.Need-query-requires
 query-requires c κs = search needs
 
--- src/one.rt:11:5
 listed-requires : tie.Need-listed-requires
 listed-requires c κs = search needs
 
--- src/one.rt:7:1
 returns : tie.Need-returns
-returns c = search needs
+returns c = c .listed .ensures ∙ ap listed (c .before .query .ensures)
 
 pub is-member-spec : {M : Type 1} → statement M
 is-member-spec = tie.close (tie.spec query-requires listed-requires returns)
