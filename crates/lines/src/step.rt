@@ -46,28 +46,19 @@ fn step_of_kind(kind: u64, first: u64, second: u64, id: u64) -> Step
     ensures { λ r. ⌜ Is r ≡ getD (steps first second id) kind NoStep ⌝ }
 {
     if kind <= 1 {
-        return Step::Add {
-            site: first,
-            id: id,
-        };
+        return Step::Add { site: first, id };
     }
     if kind <= 2 {
-        return Step::Remove {
-            site: first,
-            id: id,
-        };
+        return Step::Remove { site: first, id };
     }
     if kind <= 3 {
-        return Step::Query {
-            site: first,
-            id: id,
-        };
+        return Step::Query { site: first, id };
     }
     if kind <= 4 {
         return Step::Send {
             from: first,
             to: second,
-            id: id,
+            id,
         };
     }
     if kind <= 5 {
