@@ -20,7 +20,7 @@ pub run-turn : (line : List ℕ) (v i : ℕ) → i < length line → digitOf (ge
 unfolding digitRun
 run-turn line v i h s = rw (drop-cons line i 0 h, add-one, lt-ltb (digitOf (getD line i 0)) 10 s)
 
--- a turn of the loop, with the digit by its name
+-- one turn
 pub run-more : (line : List ℕ) (place v i d : ℕ) → i < length line → d ≡ digitOf (getD line i 0) → d < 10 → digitRun v (drop i line) ≡ digitRun 0 (drop place line) → digitRun (v * 10 + d) (drop (i + 1) line) ≡ digitRun 0 (drop place line)
 run-more line place v i d h e s inv = ap (λ (n : ℕ). digitRun (v * 10 + n) (drop (i + 1) line)) e ∙ sym (run-turn line v i h (omega arith)) ∙ inv
 
@@ -30,7 +30,7 @@ run-end line v i h = run-stop v (drop i line) (rw (drop-of-length-le line h) tt)
 pub run-other : (line : List ℕ) (v i : ℕ) → i < length line → 10 ≤ digitOf (getD line i 0) → digitRun v (drop i line) ≡ front v (drop i line)
 run-other line v i h s = run-stop v (drop i line) (rw (drop-cons line i 0 h) s)
 
--- a value past the limit stays past it
+-- more digits do not bring a value back under 2 ^ 64
 pub over : (xs ys : List ℕ) (v : ℕ) → digitRun v ys ≡ digitRun 0 xs → 2 ^ 64 ≤ v → readNumber xs ≡ refused
 unfolding readNumber judged
 over xs ys v e h =
@@ -38,7 +38,7 @@ over xs ys v e h =
     let g : v ≤ f .0 = run-grows v ys (f .0) (f .1) (e ∙ f .2) in
     rw (f .2, fair-large (getD xs 0 0) (length xs - length (f .1)) (f .0) (omega arith))
 
--- the judgement, said of places
+-- the judgement, by places in the line
 pub judged-at : (line : List ℕ) (place i v : ℕ) → place ≤ i → i ≤ length line → digitRun 0 (drop place line) ≡ front v (drop i line) → readNumber (drop place line) ≡ pick (fair (getD line place 0) (i - place) v) (front v (drop i line)) refused
 unfolding readNumber judged
 judged-at line place i v p q e =
@@ -49,7 +49,7 @@ pub judged-empty : (xs : List ℕ) (v : ℕ) → digitRun 0 xs ≡ front v xs �
 unfolding readNumber judged
 judged-empty xs v e = let k : length xs - length xs ≡ 0 = omega arith in rw (e, k, fair-empty (getD xs 0 0) v)
 
--- the ways out, each said of the contract's own definition
+-- ---- the ways out
 pub refuse-over : (line : List ℕ) (place v i d : ℕ) → i < length line → d ≡ digitOf (getD line i 0) → d < 10 → digitRun v (drop i line) ≡ digitRun 0 (drop place line) → 2 ^ 64 ≤ v * 10 + d → Refused ≡ numberAt line place
 unfolding numberAt
 refuse-over line place v i d h e s inv l = sym (to-none (length line) (readNumber (drop place line)) (over (drop place line) (drop (i + 1) line) (v * 10 + d) (run-more line place v i d h e s inv) l))

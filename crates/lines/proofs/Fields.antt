@@ -24,7 +24,7 @@ pub field-on : (used : Bool) (name line : List ℕ) (place v i : ℕ) (r : Piece
 unfolding fieldAt readField numberAt
 field-on used name line place v i r u e n = rw (u, text-says line place name v i (sym e) .0) n
 
--- a test that was computed, for the test itself
+-- the code holds the test as a value
 pub for-use : {u w : Bool} {r : Piece} (name line : List ℕ) (place : ℕ) → r ≡ fieldAt u name line place → u ≡ w → r ≡ fieldAt w name line place
 for-use name line place e q = rw (← q) e
 
@@ -39,7 +39,7 @@ field-yes used name n u = field-length used name n ∙ rw u
 pub field-no : (used : Bool) (name : List ℕ) (n : ℕ) → used ≡ false → length (field used name n) ≡ 0
 field-no used name n u = field-length used name n ∙ rw u
 
--- the name, and then the digits behind it
+-- a name was put, then digits
 pub put-field : (used : Bool) (name : List ℕ) (n : ℕ) (out out′ out″ : List ℕ) (place i : ℕ) → used ≡ true → place + length name ≤ length out → out′ ≡ put out place name → i ≡ place + length name → out″ ≡ put out′ i (digits n) → out″ ≡ put out place (field used name n)
 unfolding field
 put-field used name n out out′ out″ place i u h e1 z e2 = rw u (e2 ∙ ap (λ (l : List ℕ). put l i (digits n)) e1 ∙ ap (λ (k : ℕ). put (put out place name) k (digits n)) z ∙ put-put out place name (digits n) h)
@@ -51,6 +51,6 @@ put-none used name n out place u = rw u (sym (put-nil out place))
 pub len-field : (u used : Bool) (name : List ℕ) (n r : ℕ) → length name ≡ 4 → u ≡ used → r ≡ cond u (4 + length (digits n)) 0 → r ≡ length (field used name n)
 len-field u used name n r l e h = rw (field-length used name n, l, ← e) h
 
--- a test that was computed, in the length
+-- the same, of the length
 pub used-length : {u used : Bool} (name : List ℕ) (n : ℕ) → u ≡ used → length (field u name n) ≡ length (field used name n)
 used-length name n e = rw e

@@ -10,36 +10,36 @@ use Rattle.rules.specs.Number.{digits}
 use Rattle.rules.specs.NumberLaws.{digits-small, digits-large}
 use Rattle.rules.specs.Put.{put}
 
--- the buffer from the place of the byte that was just stored
+-- from the place of a stored byte on
 stored : (out : List ℕ) (j b : ℕ) → j < length out → drop j (set out j b) ≡ b ∷ drop (suc j) out
 stored out j b h =
     let h′ : j < length (set out j b) = omega (arith, length-set out j b) in
     drop-cons (set out j b) j 0 h′ ∙ ap (λ (x : ℕ). x ∷ drop (suc j) (set out j b)) (getD-set-same out j b 0 h) ∙ ap (λ (l : List ℕ). b ∷ l) (drop-set-lt (suc j) out j b (omega arith))
 
--- a turn: the digits still to be written, then the buffer from the place on, stay what they were together
+-- a digit goes from the number to the buffer, and the two together are the same
 pub spell-turn : (out : List ℕ) (rest i : ℕ) → 10 ≤ rest → rest < 2 ^ 64 → 0 < i → i ≤ length out → digits (rest / 10) ++ drop (i - 1) (set out (i - 1) (48 + rest % 10)) ≡ digits rest ++ drop i out
 spell-turn out rest i l h p q =
     let n : suc (i - 1) ≡ i = omega arith in
     ap (λ (t : List ℕ). digits (rest / 10) ++ t) (stored out (i - 1) (48 + rest % 10) (omega arith) ∙ ap (λ (k : ℕ). (48 + rest % 10) ∷ drop k out) n)
     ∙ sym (append-assoc (digits (rest / 10)) ((48 + rest % 10) ∷ []) (drop i out)) ∙ ap (λ (t : List ℕ). t ++ drop i out) (sym (digits-large rest l h))
 
--- the last store
+-- so does the first digit
 pub spell-last : (out : List ℕ) (rest i : ℕ) → rest < 10 → 0 < i → i ≤ length out → drop (i - 1) (set out (i - 1) (48 + rest)) ≡ digits rest ++ drop i out
 spell-last out rest i h p q =
     let n : suc (i - 1) ≡ i = omega arith in
     stored out (i - 1) (48 + rest) (omega arith) ∙ ap (λ (k : ℕ). (48 + rest) ∷ drop k out) n ∙ ap (λ (t : List ℕ). t ++ drop i out) (sym (digits-small rest h))
 
--- the bytes in front of the place are as they were
+-- before the place nothing changes
 pub front-kept : (out out₀ : List ℕ) (i b : ℕ) → take i out ≡ take i out₀ → take (i - 1) (set out (i - 1) b) ≡ take (i - 1) out₀
 front-kept out out₀ i b e =
     take-set-le (i - 1) out (i - 1) b (omega arith) ∙ sym (take-take (i - 1) i out (omega arith)) ∙ ap (take (i - 1)) e ∙ take-take (i - 1) i out₀ (omega arith)
 
--- a buffer by its front and its back
+-- the two halves of the buffer make what is promised
 pub put-is : (out out₀ : List ℕ) (place : ℕ) (bytes : List ℕ) → take place out ≡ take place out₀ → drop place out ≡ bytes ++ drop (place + length bytes) out₀ → out ≡ put out₀ place bytes
 unfolding put
 put-is out out₀ place bytes f b = sym (take-append-drop place out) ∙ ap (λ (t : List ℕ). t ++ drop place out) f ∙ ap (λ (t : List ℕ). take place out₀ ++ t) b
 
--- ---- a piece of text, from its first byte to its last
+-- ---- a text
 pub text-turn : (out out₀ : List ℕ) (place : ℕ) (text : List ℕ) (j : ℕ) → out ≡ paste out₀ place text j → place + j < length out₀ → j < length text → set out (place + j) (getD text j 0) ≡ paste out₀ place text (j + 1)
 text-turn out out₀ place text j e p q = ap (λ (l : List ℕ). set l (place + j) (getD text j 0)) e ∙ paste-suc out₀ place text j 0 p q ∙ ap (paste out₀ place text) (sym (add-one j))
 

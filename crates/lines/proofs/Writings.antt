@@ -1,5 +1,5 @@
 -- A line, written: how long it is, when it may be written, and the buffer that four pieces make. Assumes nothing.
-use mathlib.Core.Path.{_≡_, sym, ap, _∙_}
+use mathlib.Core.Path.{_≡_, ap, _∙_}
 use mathlib.Core.Bool.{Bool, true, false}
 use mathlib.Core.List.{List, [], _++_, append-assoc}
 use Prim.Native.Nat.{ℕ, _+_, _≤_, _<_}
@@ -51,7 +51,7 @@ module _ (kind first second i room : ℕ) where
       (λ l. record { step = s; room-is = l; text = rw (eq-eqb (checkOf kind first second i room) 0 h) }))
       (λ s. absurd (let z : _≡_ {A = ℕ} 11 0 = check-step s ∙ h in omega arith))
 
--- ---- a line, piece by piece
+-- ---- four pieces, one behind the other
 module _ (out : List ℕ) (p q r s : List ℕ) where
   pub put-four : (out₁ out₂ out₃ out₄ : List ℕ) (a b d : ℕ) → length p + length q + length r + length s ≤ length out
       → out₁ ≡ put out 0 p → a ≡ length p → out₂ ≡ put out₁ a q → b ≡ a + length q → out₃ ≡ put out₂ b r → d ≡ b + length r → out₄ ≡ put out₃ d s → out₄ ≡ put out 0 (p ++ (q ++ (r ++ s)))

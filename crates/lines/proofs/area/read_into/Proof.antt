@@ -1,5 +1,5 @@
--- `lines::area::read_into` meets its contract: too short an area, no line, or four words one behind the other. Assumes nothing.
-use mathlib.Core.Path.{_≡_, sym, _∙_}
+-- `lines::area::read_into`: the area is too short, or the text is no line, or four words were put. Assumes nothing.
+use mathlib.Core.Path.{sym, _∙_}
 use Rattle.lines.proofs.Areas.{area-short, area-none, area-laid}
 use borrow.Author.Needs.{needs}
 use Rattle.lines.proofs.area.read_into.Statement.{statement}
@@ -36,7 +36,8 @@ same-length : tie.Need-same-length
 same-length c = search needs
 
 returns-3 : tie.Need-returns-3
-returns-3 c = area-laid _ _ _ _ _ _ _ _ _ _ (c .before .before .before .before .before .before .before .before .before .before .before .before .before .before .before .before .before .before .before .before .if1 .left) (sym (c .before .before .before .before .before .before .before .before .before .before .before .before .before .before .before .before .before .kind .given .1) ∙ c .before .before .before .before .before .before .before .before .before .before .before .before .before .before .before .before .before .before .before .read-line .ensures)
+returns-3 c = let r = c .before .before .before .before .before .before .before .before .before .before .before .before .before .before .before .before .before in
+    area-laid _ _ _ _ _ _ _ _ _ _ (r .before .before .before .if1 .left) (sym (r .kind .given .1) ∙ r .before .before .read-line .ensures)
     (c .before .before .before .before .before .before .before .before .before .before .before .before .before .before .write-word .ensures)
     (c .before .before .before .before .before .before .before .before .before .before .write-word2 .ensures)
     (c .before .before .before .before .before .before .write-word3 .ensures)

@@ -1,10 +1,9 @@
--- `lines::area::write_word` meets its contract. Invariant: putting what is left of the number at the place gives the buffer that is promised.
--- Assumes nothing.
+-- `lines::area::write_word`. Kept by the loop: with the rest of the number put at the place, the buffer is the one to come. Assumes nothing.
 use native.Mathlib.Omega.{arith}
 use mathlib.Core.Path.{_≡_, refl, sym, ap, _∙_}
-use Prim.Native.Nat.{ℕ, suc, _+_, _-_, _/_, _%_, _≤_, _<_}
+use Prim.Native.Nat.{ℕ, suc, _+_, _-_, _≤_}
 use lib.Bits.{mask-lt}
-use lib.ListN.{length, set, length-set}
+use lib.ListN.{length, length-set}
 use denote.Ref.{now}
 use Rattle.rules.specs.Area.{little}
 use Rattle.rules.specs.Put.{put}

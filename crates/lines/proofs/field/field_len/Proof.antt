@@ -1,4 +1,4 @@
--- `lines::field::field_len` meets its contract. Assumes nothing.
+-- `lines::field::field_len`: four bytes of name and the digits. Assumes nothing.
 use native.Mathlib.Omega.{arith}
 use borrow.Author.Needs.{needs}
 use Rattle.lines.proofs.field.field_len.Statement.{statement}

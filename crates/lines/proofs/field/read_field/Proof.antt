@@ -1,5 +1,5 @@
--- `lines::field::read_field` meets its contract. Assumes nothing.
-use mathlib.Core.Path.{_≡_, sym, _∙_}
+-- `lines::field::read_field`: a number that is not used, a name that does not stand there, or the number behind it. Assumes nothing.
+use mathlib.Core.Path.{sym, _∙_}
 use borrow.Author.Tests.{not-true, not-false}
 use Rattle.lines.proofs.Fields.{field-off, field-none, field-on}
 use borrow.Author.Needs.{needs}

@@ -1,4 +1,4 @@
--- `lines::kind::has_second` meets its contract. Assumes nothing.
+-- `lines::kind::has_second`: which of the two kinds it is. Assumes nothing.
 use borrow.Author.Tests.{eq-eqb, ne-eqb}
 use Rattle.lines.proofs.kind.has_second.Statement.{statement}
 use Rattle.lines.proofs.kind.has_second.Tie as tie

@@ -1,6 +1,6 @@
 -- `lines::kind::read_kind`: too short a line, another lead, or the lead of the only kind that is left. Assumes nothing.
 use native.Mathlib.Omega.{arith}
-use mathlib.Core.Path.{_≡_, sym, ap, _∙_}
+use mathlib.Core.Path.{sym, ap, _∙_}
 use lib.Seq.{length-take-le}
 use Rattle.rules.specs.LinePlaces.{textAt}
 use Rattle.lines.proofs.Leads.{lead-is, kind-short, kind-found, kind-other}

@@ -1,4 +1,4 @@
--- `lines::number::digit` meets its contract: at each return the tests that led there say which case of `digitOf` holds. Assumes nothing.
+-- `lines::number::digit`: each return is one case of `digitOf`. Assumes nothing.
 use borrow.Author.Needs.{needs}
 use borrow.Author.Tests.{le-leb, lt-leb}
 use Rattle.rules.specs.Number.{digitOf}

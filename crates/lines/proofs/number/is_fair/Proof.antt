@@ -1,6 +1,4 @@
--- `lines::number::is_fair` meets its contract: at each return the tests that led there say which case of `fair` holds; a `u64` is below 2 ^ 64.
--- Assumes nothing.
-use borrow.Author.Needs.{needs}
+-- `lines::number::is_fair`: each return is one case of `fair`; that the value fits 64 bits is known of any `u64`. Assumes nothing.
 use borrow.Author.Tests.{le-leb, lt-leb, eq-eqb, ne-eqb, lt-ltb}
 use Rattle.rules.specs.Number.{fair}
 use Rattle.lines.proofs.number.is_fair.Statement.{statement}

@@ -1,4 +1,4 @@
--- `lines::number::places` meets its contract. Invariant: the digits passed and those of what is left are the number's. Assumes nothing.
+-- `lines::number::places`. Kept by the loop: the digits counted, and those of the rest, make the digits of the number. Assumes nothing.
 use native.Mathlib.Omega.{arith}
 use mathlib.Core.Path.{_≡_}
 use Prim.Native.Nat.{_+_, _^_, _<_}

@@ -1,16 +1,15 @@
--- `lines::number::read_number` meets its contract. Invariant: the run read on from the value so far, at the place so far, is the run from the start.
+-- `lines::number::read_number`. Kept by the loop: reading on from the value and the place ends as reading from the first place does.
 -- Assumes nothing.
 use borrow.Author.Needs.{needs}
 use native.Mathlib.Omega.{arith}
-use mathlib.Core.Path.{_≡_, refl, sym, ap, _∙_}
-use Prim.Native.Nat.{ℕ, _+_, _-_, _*_, _^_, _≤_, _<_, max}
-use lib.ListN.{length, getD, drop}
-use Rattle.rules.specs.Text.{front, refused, pick}
-use Rattle.rules.specs.Number.{digitOf, digitRun, readNumber, fair}
+use mathlib.Core.Path.{_≡_, refl, sym, _∙_}
+use Prim.Native.Nat.{_-_, _^_, _≤_, _<_, max}
+use lib.ListN.{length, drop}
+use Rattle.rules.specs.Text.{front}
+use Rattle.rules.specs.Number.{digitRun}
 use Rattle.rules.specs.NumberLaws.{below}
 use mathlib.Core.Logic.{⊎-elim}
 use denote.Ref.{now}
-use Rattle.rules.specs.LinePlaces.{numberAt, to-place, to-none}
 use Rattle.lines.proofs.Digits.{run-more, run-end, run-other, refuse-over, refuse-empty, accept, refuse-unfair}
 use Rattle.lines.proofs.number.read_number.Statement.{statement}
 use Rattle.lines.proofs.number.read_number.Tie as tie
@@ -62,7 +61,7 @@ loop-again c = (
 halt : (c : tie.Left-loop Inv-loop μ-loop) → digitRun (c .before .loop .v) (drop (c .before .loop .i) (now (c .before .before .before .args .line))) ≡ front (c .before .loop .v) (drop (c .before .loop .i) (now (c .before .before .before .args .line)))
 halt c = ⊎-elim (λ w. run-end _ _ _ (w .left)) (λ w. run-other _ _ _ (w .0 .taken) (omega (arith, w .2 .ensures, w .3 .taken))) (c .loop-test .came)
 
--- the run from the place, in whole
+-- the loop has read the whole run
 whole : (c : tie.Left-loop Inv-loop μ-loop) → digitRun 0 (drop (c .before .before .before .args .place) (now (c .before .before .before .args .line))) ≡ front (c .before .loop .v) (drop (c .before .loop .i) (now (c .before .before .before .args .line)))
 whole c = sym (c .before .loop .inv .3) ∙ halt c
 
@@ -78,7 +77,7 @@ sub-is-fair c = omega arith
 is-fair-requires : tie.Need-is-fair-requires Inv-loop μ-loop
 is-fair-requires c κs = search needs
 
--- where a digit was passed, the place is within the line
+-- a loop that moved has not left the line
 within : (c : tie.Else4 Inv-loop μ-loop) → c .before .before .loop .i ≤ length (now (c .before .before .before .before .args .line))
 within c = below (c .before .before .before .before .args .place) (c .before .before .loop .i) (λ h. omega arith) (λ h. absurd (c .if4 .left (omega arith)))
 

@@ -1,10 +1,10 @@
--- `lines::number::write_number` meets its contract. Invariant: the digits still to be written, followed by the buffer from the place on, are the
--- digits of the number followed by the bytes that stood behind them; in front of the place nothing has changed. Assumes nothing.
+-- `lines::number::write_number`. Kept by the loop: the digits of the rest and then the buffer from the place on are what is to stand there in
+-- the end, and the buffer before the place is as it was. Assumes nothing.
 use borrow.Author.Needs.{needs}
 use native.Mathlib.Omega.{arith}
 use mathlib.Core.Path.{_≡_, refl, sym, ap, _∙_}
 use mathlib.Core.List.{_++_}
-use Prim.Native.Nat.{ℕ, _+_, _-_, _/_, _%_, _^_, _≤_, _<_}
+use Prim.Native.Nat.{ℕ, _+_, _-_, _%_, _^_, _≤_, _<_}
 use lib.ListN.{length, take, drop, set, length-set}
 use denote.Ref.{now}
 use Rattle.rules.specs.Number.{digits}

@@ -1,7 +1,8 @@
--- `lines::read::read_line` meets its contract: at each return the readings that led there say how `stepOf` ends. Assumes nothing.
-use mathlib.Core.Path.{_≡_, sym, _∙_}
-use Rattle.lines.proofs.Readings.{line-kind, line-first, line-second, line-id, line-more, line-step, b-within, d-within}
+-- `lines::read::read_line`: `k`, `n`, `f` and `g` are what was read so far of the kind, the first number and the two further ones.
+-- Assumes nothing.
+use mathlib.Core.Path.{sym, _∙_}
 use Rattle.lines.proofs.Fields.{for-use}
+use Rattle.lines.proofs.Readings.{line-kind, line-first, line-second, line-id, line-more, line-step, b-within, d-within}
 use borrow.Author.Needs.{needs}
 use Rattle.lines.proofs.read.read_line.Statement.{statement}
 use Rattle.lines.proofs.read.read_line.Tie as tie
@@ -28,7 +29,8 @@ enum-told-2 : tie.Need-enum-told-2
 enum-told-2 c = search needs
 
 returns-2 : tie.Need-returns-2
-returns-2 c = line-first _ _ _ (sym (c .before .before .before .before .kind .given .1) ∙ c .before .before .before .before .before .before .read-kind .ensures) (sym (c .enum-told2 .given .1) ∙ c .before .before .read-number .ensures)
+returns-2 c = let k = sym (c .before .before .before .before .kind .given .1) ∙ c .before .before .before .before .before .before .read-kind .ensures in
+    line-first _ _ _ k (sym (c .enum-told2 .given .1) ∙ c .before .before .read-number .ensures)
 
 has-second-requires : tie.Need-has-second-requires
 has-second-requires c κs = search needs
@@ -37,7 +39,9 @@ slice-aggregate-read-field : tie.Need-slice-aggregate-read-field
 slice-aggregate-read-field c = search needs
 
 read-field-requires : tie.Need-read-field-requires
-read-field-requires c κs = b-within _ _ _ (sym (c .before .before .before .before .before .before .before .kind .given .1) ∙ c .before .before .before .before .before .before .before .before .before .read-kind .ensures) _ _ (sym (c .before .before .before .first .given .1) ∙ c .before .before .before .before .before .read-number .ensures)
+read-field-requires c κs = let k = sym (c .before .before .before .before .before .before .before .kind .given .1) ∙ c .before .before .before .before .before .before .before .before .before .read-kind .ensures in
+    let n = sym (c .before .before .before .first .given .1) ∙ c .before .before .before .before .before .read-number .ensures in
+    b-within _ _ _ k _ _ n
 
 enum-known-second : tie.Need-enum-known-second
 enum-known-second c = search needs
@@ -46,7 +50,9 @@ enum-told-3 : tie.Need-enum-told-3
 enum-told-3 c = search needs
 
 returns-3 : tie.Need-returns-3
-returns-3 c = line-second _ _ _ (sym (c .before .before .before .before .before .before .before .before .before .before .kind .given .1) ∙ c .before .before .before .before .before .before .before .before .before .before .before .before .read-kind .ensures) _ _ (sym (c .before .before .before .before .before .before .first .given .1) ∙ c .before .before .before .before .before .before .before .before .read-number .ensures) (sym (c .enum-told3 .given .1) ∙ for-use _ _ _ (c .before .before .read-field .ensures) (c .before .before .before .before .has-second .ensures))
+returns-3 c = let k = sym (c .before .before .before .before .before .before .before .before .before .before .kind .given .1) ∙ c .before .before .before .before .before .before .before .before .before .before .before .before .read-kind .ensures in
+    let n = sym (c .before .before .before .before .before .before .first .given .1) ∙ c .before .before .before .before .before .before .before .before .read-number .ensures in
+    line-second _ _ _ k _ _ n (sym (c .enum-told3 .given .1) ∙ for-use _ _ _ (c .before .before .read-field .ensures) (c .before .before .before .before .has-second .ensures))
 
 has-id-requires : tie.Need-has-id-requires
 has-id-requires c κs = search needs
@@ -55,7 +61,10 @@ slice-aggregate-read-field-2 : tie.Need-slice-aggregate-read-field-2
 slice-aggregate-read-field-2 c = search needs
 
 read-field-requires-2 : tie.Need-read-field-requires-2
-read-field-requires-2 c κs = d-within _ _ _ (sym (c .before .before .before .before .before .before .before .before .before .before .before .before .before .kind .given .1) ∙ c .before .before .before .before .before .before .before .before .before .before .before .before .before .before .before .read-kind .ensures) _ _ (sym (c .before .before .before .before .before .before .before .before .before .first .given .1) ∙ c .before .before .before .before .before .before .before .before .before .before .before .read-number .ensures) _ _ (sym (c .before .before .before .second .given .1) ∙ for-use _ _ _ (c .before .before .before .before .before .read-field .ensures) (c .before .before .before .before .before .before .before .has-second .ensures))
+read-field-requires-2 c κs = let k = sym (c .before .before .before .before .before .before .before .before .before .before .before .before .before .kind .given .1) ∙ c .before .before .before .before .before .before .before .before .before .before .before .before .before .before .before .read-kind .ensures in
+    let n = sym (c .before .before .before .before .before .before .before .before .before .first .given .1) ∙ c .before .before .before .before .before .before .before .before .before .before .before .read-number .ensures in
+    let f = sym (c .before .before .before .second .given .1) ∙ for-use _ _ _ (c .before .before .before .before .before .read-field .ensures) (c .before .before .before .before .before .before .before .has-second .ensures) in
+    d-within _ _ _ k _ _ n _ _ f
 
 enum-known-id : tie.Need-enum-known-id
 enum-known-id c = search needs
@@ -64,13 +73,24 @@ enum-told-4 : tie.Need-enum-told-4
 enum-told-4 c = search needs
 
 returns-4 : tie.Need-returns-4
-returns-4 c = line-id _ _ _ (sym (c .before .before .before .before .before .before .before .before .before .before .before .before .before .before .before .before .kind .given .1) ∙ c .before .before .before .before .before .before .before .before .before .before .before .before .before .before .before .before .before .before .read-kind .ensures) _ _ (sym (c .before .before .before .before .before .before .before .before .before .before .before .before .first .given .1) ∙ c .before .before .before .before .before .before .before .before .before .before .before .before .before .before .read-number .ensures) _ _ (sym (c .before .before .before .before .before .before .second .given .1) ∙ for-use _ _ _ (c .before .before .before .before .before .before .before .before .read-field .ensures) (c .before .before .before .before .before .before .before .before .before .before .has-second .ensures)) (sym (c .enum-told4 .given .1) ∙ for-use _ _ _ (c .before .before .read-field2 .ensures) (c .before .before .before .before .has-id .ensures))
+returns-4 c = let k = sym (c .before .before .before .before .before .before .before .before .before .before .before .before .before .before .before .before .kind .given .1) ∙ c .before .before .before .before .before .before .before .before .before .before .before .before .before .before .before .before .before .before .read-kind .ensures in
+    let n = sym (c .before .before .before .before .before .before .before .before .before .before .before .before .first .given .1) ∙ c .before .before .before .before .before .before .before .before .before .before .before .before .before .before .read-number .ensures in
+    let f = sym (c .before .before .before .before .before .before .second .given .1) ∙ for-use _ _ _ (c .before .before .before .before .before .before .before .before .read-field .ensures) (c .before .before .before .before .before .before .before .before .before .before .has-second .ensures) in
+    line-id _ _ _ k _ _ n _ _ f (sym (c .enum-told4 .given .1) ∙ for-use _ _ _ (c .before .before .read-field2 .ensures) (c .before .before .before .before .has-id .ensures))
 
 returns-5 : tie.Need-returns-5
-returns-5 c = line-more _ _ _ (sym (c .before .before .before .before .before .before .before .before .before .before .before .before .before .before .before .before .before .before .kind .given .1) ∙ c .before .before .before .before .before .before .before .before .before .before .before .before .before .before .before .before .before .before .before .before .read-kind .ensures) _ _ (sym (c .before .before .before .before .before .before .before .before .before .before .before .before .before .before .first .given .1) ∙ c .before .before .before .before .before .before .before .before .before .before .before .before .before .before .before .before .read-number .ensures) _ _ (sym (c .before .before .before .before .before .before .before .before .second .given .1) ∙ for-use _ _ _ (c .before .before .before .before .before .before .before .before .before .before .read-field .ensures) (c .before .before .before .before .before .before .before .before .before .before .before .before .has-second .ensures)) _ _ (sym (c .before .before .id .given .1) ∙ for-use _ _ _ (c .before .before .before .before .read-field2 .ensures) (c .before .before .before .before .before .before .has-id .ensures)) (c .if1 .taken)
+returns-5 c = let k = sym (c .before .before .before .before .before .before .before .before .before .before .before .before .before .before .before .before .before .before .kind .given .1) ∙ c .before .before .before .before .before .before .before .before .before .before .before .before .before .before .before .before .before .before .before .before .read-kind .ensures in
+    let n = sym (c .before .before .before .before .before .before .before .before .before .before .before .before .before .before .first .given .1) ∙ c .before .before .before .before .before .before .before .before .before .before .before .before .before .before .before .before .read-number .ensures in
+    let f = sym (c .before .before .before .before .before .before .before .before .second .given .1) ∙ for-use _ _ _ (c .before .before .before .before .before .before .before .before .before .before .read-field .ensures) (c .before .before .before .before .before .before .before .before .before .before .before .before .has-second .ensures) in
+    let g = sym (c .before .before .id .given .1) ∙ for-use _ _ _ (c .before .before .before .before .read-field2 .ensures) (c .before .before .before .before .before .before .has-id .ensures) in
+    line-more _ _ _ k _ _ n _ _ f _ _ g (c .if1 .taken)
 
 returns-6 : tie.Need-returns-6
-returns-6 c = line-step _ _ _ (sym (c .before .before .before .before .before .before .before .before .before .before .before .before .before .before .before .before .before .before .kind .given .1) ∙ c .before .before .before .before .before .before .before .before .before .before .before .before .before .before .before .before .before .before .before .before .read-kind .ensures) _ _ (sym (c .before .before .before .before .before .before .before .before .before .before .before .before .before .before .first .given .1) ∙ c .before .before .before .before .before .before .before .before .before .before .before .before .before .before .before .before .read-number .ensures) _ _ (sym (c .before .before .before .before .before .before .before .before .second .given .1) ∙ for-use _ _ _ (c .before .before .before .before .before .before .before .before .before .before .read-field .ensures) (c .before .before .before .before .before .before .before .before .before .before .before .before .has-second .ensures)) _ _ (sym (c .before .before .id .given .1) ∙ for-use _ _ _ (c .before .before .before .before .read-field2 .ensures) (c .before .before .before .before .before .before .has-id .ensures)) (c .if1 .left)
+returns-6 c = let k = sym (c .before .before .before .before .before .before .before .before .before .before .before .before .before .before .before .before .before .before .kind .given .1) ∙ c .before .before .before .before .before .before .before .before .before .before .before .before .before .before .before .before .before .before .before .before .read-kind .ensures in
+    let n = sym (c .before .before .before .before .before .before .before .before .before .before .before .before .before .before .first .given .1) ∙ c .before .before .before .before .before .before .before .before .before .before .before .before .before .before .before .before .read-number .ensures in
+    let f = sym (c .before .before .before .before .before .before .before .before .second .given .1) ∙ for-use _ _ _ (c .before .before .before .before .before .before .before .before .before .before .read-field .ensures) (c .before .before .before .before .before .before .before .before .before .before .before .before .has-second .ensures) in
+    let g = sym (c .before .before .id .given .1) ∙ for-use _ _ _ (c .before .before .before .before .read-field2 .ensures) (c .before .before .before .before .before .before .has-id .ensures) in
+    line-step _ _ _ k _ _ n _ _ f _ _ g (c .if1 .left)
 
 pub read-line-spec : {M : Type 1} → statement M
 read-line-spec =

@@ -1,4 +1,4 @@
--- `lines::step::is_proper` meets its contract. Assumes nothing.
+-- `lines::step::is_proper`: a number in use is any. Assumes nothing.
 use borrow.Author.Needs.{needs}
 use Rattle.lines.proofs.step.is_proper.Statement.{statement}
 use Rattle.lines.proofs.step.is_proper.Tie as tie

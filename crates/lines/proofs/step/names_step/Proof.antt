@@ -1,4 +1,4 @@
--- `lines::step::names_step` meets its contract: at each return the tests that led there say how `isStep` computes. Assumes nothing.
+-- `lines::step::names_step`: each return is one test of `namesStep`. Assumes nothing.
 use borrow.Author.Tests.{not-true, not-false}
 use Rattle.lines.proofs.Steps.{kind-low, kind-high, second-bad, id-says}
 use borrow.Author.Needs.{needs}

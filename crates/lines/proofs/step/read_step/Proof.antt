@@ -1,5 +1,5 @@
 -- `lines::step::read_step`: no line, or the step that its numbers name. Assumes nothing.
-use mathlib.Core.Path.{_≡_, sym, _∙_}
+use mathlib.Core.Path.{sym, _∙_}
 use Rattle.lines.proofs.Steps.{line-none, line-is}
 use borrow.Author.Needs.{needs}
 use Rattle.lines.proofs.step.read_step.Statement.{statement}

@@ -1,5 +1,5 @@
 -- `lines::step::step_for`: numbers that name no step, or the step of their kind. Assumes nothing.
-use mathlib.Core.Path.{_≡_, sym, _∙_}
+use mathlib.Core.Path.{sym, _∙_}
 use borrow.Author.Tests.{not-true, not-false}
 use Rattle.rules.specs.LineLaws.{step-says}
 use Rattle.lines.proofs.Steps.{step-none, step-is}

@@ -1,12 +1,9 @@
--- `lines::text::read_text` meets its contract. Invariant: what is left of the text at the place so far is found where the whole text is at the start.
--- Assumes nothing.
-use borrow.Author.Needs.{needs}
+-- `lines::text::read_text`. Kept by the loop: the text stands at the first place if and only if its rest stands at this one. Assumes nothing.
 use native.Mathlib.Omega.{arith}
-use mathlib.Core.Path.{_≡_, refl, sym, ap, _∙_}
-use Prim.Native.Nat.{ℕ, _+_, _-_, _*_, _^_, _≤_, _<_, max}
-use lib.ListN.{length, getD, drop}
-use Rattle.rules.specs.Text.{front, refused, behind}
-use Rattle.rules.specs.LinePlaces.{textAt, to-place, to-none}
+use mathlib.Core.Path.{_≡_, refl, sym, _∙_}
+use Prim.Native.Nat.{_-_, _≤_}
+use lib.ListN.{length, drop}
+use Rattle.rules.specs.Text.{behind}
 use Rattle.lines.proofs.Pieces.{behind-turn, text-short, text-other, text-end}
 use Rattle.lines.proofs.text.read_text.Statement.{statement}
 use Rattle.lines.proofs.text.read_text.Tie as tie

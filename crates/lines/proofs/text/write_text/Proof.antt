@@ -1,7 +1,7 @@
--- `lines::text::write_text` meets its contract. Invariant: the first j bytes of the text are in place. Assumes nothing.
+-- `lines::text::write_text`. Kept by the loop: j bytes of the text stand in the buffer. Assumes nothing.
 use native.Mathlib.Omega.{arith}
-use mathlib.Core.Path.{_≡_, refl, sym, ap, _∙_}
-use Prim.Native.Nat.{ℕ, _+_, _-_, _≤_, _<_}
+use mathlib.Core.Path.{_≡_, refl}
+use Prim.Native.Nat.{_-_, _≤_}
 use lib.ListN.{length, length-set}
 use lib.Seq.{paste, paste-zero}
 use denote.Ref.{now}

@@ -1,6 +1,6 @@
 -- `lines::write::check_line`: no step, no room, or neither refusal. Assumes nothing.
 use native.Mathlib.Omega.{arith}
-use mathlib.Core.Path.{_≡_, sym, _∙_}
+use mathlib.Core.Path.{sym, _∙_}
 use borrow.Author.Tests.{not-true, not-false}
 use Rattle.rules.specs.LineLaws.{step-says}
 use Rattle.lines.proofs.Writings.{check-step, check-room, check-ok}

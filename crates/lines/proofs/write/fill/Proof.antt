@@ -1,5 +1,5 @@
 -- `lines::write::fill`: the check leaves nothing to be written, or room for the whole line. Assumes nothing.
-use mathlib.Core.Path.{_≡_, sym, ap, _∙_}
+use mathlib.Core.Path.{sym, ap, _∙_}
 use lib.ListN.{length}
 use denote.Ref.{now}
 use Rattle.rules.specs.LineLaws.{step-says}

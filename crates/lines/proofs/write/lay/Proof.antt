@@ -1,6 +1,6 @@
 -- `lines::write::lay`: four pieces put one behind the other make the line. Assumes nothing.
 use native.Mathlib.Omega.{arith}
-use mathlib.Core.Path.{_≡_, sym, ap, _∙_}
+use mathlib.Core.Path.{ap, _∙_}
 use denote.Ref.{now}
 use Rattle.rules.specs.Number.{digits}
 use Rattle.rules.specs.Lines.{lead, toName, idName, field}

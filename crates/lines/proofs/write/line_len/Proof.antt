@@ -1,6 +1,6 @@
 -- `lines::write::line_len`: the lengths of the four pieces add up. Assumes nothing.
 use native.Mathlib.Omega.{arith}
-use mathlib.Core.Path.{_≡_, refl}
+use mathlib.Core.Path.{refl}
 use Rattle.rules.specs.Lines.{toName, idName, hasSecond, hasId}
 use Rattle.lines.proofs.Fields.{len-field}
 use Rattle.lines.proofs.Writings.{line-length}

@@ -1,5 +1,5 @@
--- `lines::write::write_line` meets its contract: the part handed back is the front of the buffer that `fill` left. Assumes nothing.
-use mathlib.Core.Path.{_≡_, refl, sym, ap, _∙_}
+-- `lines::write::write_line`: `fill` says what the front of the buffer holds. Assumes nothing.
+use mathlib.Core.Path.{refl, sym, ap, _∙_}
 use lib.ListN.{length}
 use Rattle.rules.specs.Writing.{filled-part}
 use borrow.Author.Needs.{needs}
