@@ -1,6 +1,6 @@
 -- `lines::read::read_line`: `k`, `n`, `f` and `g` are what was read so far of the kind, the first number and the two further ones.
 -- Assumes nothing.
-use mathlib.Core.Path.{sym, _∙_}
+use mathlib.Core.Path.{_≡_, sym, _∙_}
 use Rattle.lines.proofs.Fields.{for-use}
 use Rattle.lines.proofs.Readings.{line-kind, line-first, line-second, line-id, line-more, line-step, b-within, d-within}
 use borrow.Author.Needs.{needs}
@@ -29,7 +29,8 @@ enum-told-2 : tie.Need-enum-told-2
 enum-told-2 c = search needs
 
 returns-2 : tie.Need-returns-2
-returns-2 c = let k = sym (c .before .before .before .before .kind .given .1) ∙ c .before .before .before .before .before .before .read-kind .ensures in
+returns-2 c = let at-kind = c .before .before .before .before in
+    let k = sym (at-kind .kind .given .1) ∙ at-kind .before .before .read-kind .ensures in
     line-first _ _ _ k (sym (c .enum-told2 .given .1) ∙ c .before .before .read-number .ensures)
 
 has-second-requires : tie.Need-has-second-requires
@@ -39,8 +40,10 @@ slice-aggregate-read-field : tie.Need-slice-aggregate-read-field
 slice-aggregate-read-field c = search needs
 
 read-field-requires : tie.Need-read-field-requires
-read-field-requires c κs = let k = sym (c .before .before .before .before .before .before .before .kind .given .1) ∙ c .before .before .before .before .before .before .before .before .before .read-kind .ensures in
-    let n = sym (c .before .before .before .first .given .1) ∙ c .before .before .before .before .before .read-number .ensures in
+read-field-requires c κs = let at-first = c .before .before .before in
+    let at-kind = at-first .before .before .before .before in
+    let k = sym (at-kind .kind .given .1) ∙ at-kind .before .before .read-kind .ensures in
+    let n = sym (at-first .first .given .1) ∙ at-first .before .before .read-number .ensures in
     b-within _ _ _ k _ _ n
 
 enum-known-second : tie.Need-enum-known-second
@@ -50,8 +53,10 @@ enum-told-3 : tie.Need-enum-told-3
 enum-told-3 c = search needs
 
 returns-3 : tie.Need-returns-3
-returns-3 c = let k = sym (c .before .before .before .before .before .before .before .before .before .before .kind .given .1) ∙ c .before .before .before .before .before .before .before .before .before .before .before .before .read-kind .ensures in
-    let n = sym (c .before .before .before .before .before .before .first .given .1) ∙ c .before .before .before .before .before .before .before .before .read-number .ensures in
+returns-3 c = let at-first = c .before .before .before .before .before .before in
+    let at-kind = at-first .before .before .before .before in
+    let k = sym (at-kind .kind .given .1) ∙ at-kind .before .before .read-kind .ensures in
+    let n = sym (at-first .first .given .1) ∙ at-first .before .before .read-number .ensures in
     line-second _ _ _ k _ _ n (sym (c .enum-told3 .given .1) ∙ for-use _ _ _ (c .before .before .read-field .ensures) (c .before .before .before .before .has-second .ensures))
 
 has-id-requires : tie.Need-has-id-requires
@@ -61,9 +66,12 @@ slice-aggregate-read-field-2 : tie.Need-slice-aggregate-read-field-2
 slice-aggregate-read-field-2 c = search needs
 
 read-field-requires-2 : tie.Need-read-field-requires-2
-read-field-requires-2 c κs = let k = sym (c .before .before .before .before .before .before .before .before .before .before .before .before .before .kind .given .1) ∙ c .before .before .before .before .before .before .before .before .before .before .before .before .before .before .before .read-kind .ensures in
-    let n = sym (c .before .before .before .before .before .before .before .before .before .first .given .1) ∙ c .before .before .before .before .before .before .before .before .before .before .before .read-number .ensures in
-    let f = sym (c .before .before .before .second .given .1) ∙ for-use _ _ _ (c .before .before .before .before .before .read-field .ensures) (c .before .before .before .before .before .before .before .has-second .ensures) in
+read-field-requires-2 c κs = let at-second = c .before .before .before in
+    let at-first = at-second .before .before .before .before .before .before in
+    let at-kind = at-first .before .before .before .before in
+    let k = sym (at-kind .kind .given .1) ∙ at-kind .before .before .read-kind .ensures in
+    let n = sym (at-first .first .given .1) ∙ at-first .before .before .read-number .ensures in
+    let f = sym (at-second .second .given .1) ∙ for-use _ _ _ (at-second .before .before .read-field .ensures) (at-second .before .before .before .before .has-second .ensures) in
     d-within _ _ _ k _ _ n _ _ f
 
 enum-known-id : tie.Need-enum-known-id
@@ -73,23 +81,34 @@ enum-told-4 : tie.Need-enum-told-4
 enum-told-4 c = search needs
 
 returns-4 : tie.Need-returns-4
-returns-4 c = let k = sym (c .before .before .before .before .before .before .before .before .before .before .before .before .before .before .before .before .kind .given .1) ∙ c .before .before .before .before .before .before .before .before .before .before .before .before .before .before .before .before .before .before .read-kind .ensures in
-    let n = sym (c .before .before .before .before .before .before .before .before .before .before .before .before .first .given .1) ∙ c .before .before .before .before .before .before .before .before .before .before .before .before .before .before .read-number .ensures in
-    let f = sym (c .before .before .before .before .before .before .second .given .1) ∙ for-use _ _ _ (c .before .before .before .before .before .before .before .before .read-field .ensures) (c .before .before .before .before .before .before .before .before .before .before .has-second .ensures) in
+returns-4 c = let at-second = c .before .before .before .before .before .before in
+    let at-first = at-second .before .before .before .before .before .before in
+    let at-kind = at-first .before .before .before .before in
+    let k = sym (at-kind .kind .given .1) ∙ at-kind .before .before .read-kind .ensures in
+    let n = sym (at-first .first .given .1) ∙ at-first .before .before .read-number .ensures in
+    let f = sym (at-second .second .given .1) ∙ for-use _ _ _ (at-second .before .before .read-field .ensures) (at-second .before .before .before .before .has-second .ensures) in
     line-id _ _ _ k _ _ n _ _ f (sym (c .enum-told4 .given .1) ∙ for-use _ _ _ (c .before .before .read-field2 .ensures) (c .before .before .before .before .has-id .ensures))
 
 returns-5 : tie.Need-returns-5
-returns-5 c = let k = sym (c .before .before .before .before .before .before .before .before .before .before .before .before .before .before .before .before .before .before .kind .given .1) ∙ c .before .before .before .before .before .before .before .before .before .before .before .before .before .before .before .before .before .before .before .before .read-kind .ensures in
-    let n = sym (c .before .before .before .before .before .before .before .before .before .before .before .before .before .before .first .given .1) ∙ c .before .before .before .before .before .before .before .before .before .before .before .before .before .before .before .before .read-number .ensures in
-    let f = sym (c .before .before .before .before .before .before .before .before .second .given .1) ∙ for-use _ _ _ (c .before .before .before .before .before .before .before .before .before .before .read-field .ensures) (c .before .before .before .before .before .before .before .before .before .before .before .before .has-second .ensures) in
-    let g = sym (c .before .before .id .given .1) ∙ for-use _ _ _ (c .before .before .before .before .read-field2 .ensures) (c .before .before .before .before .before .before .has-id .ensures) in
+returns-5 c = let at-id = c .before .before in
+    let at-second = at-id .before .before .before .before .before .before in
+    let at-first = at-second .before .before .before .before .before .before in
+    let at-kind = at-first .before .before .before .before in
+    let k = sym (at-kind .kind .given .1) ∙ at-kind .before .before .read-kind .ensures in
+    let n = sym (at-first .first .given .1) ∙ at-first .before .before .read-number .ensures in
+    let f = sym (at-second .second .given .1) ∙ for-use _ _ _ (at-second .before .before .read-field .ensures) (at-second .before .before .before .before .has-second .ensures) in
+    let g = sym (at-id .id .given .1) ∙ for-use _ _ _ (at-id .before .before .read-field2 .ensures) (at-id .before .before .before .before .has-id .ensures) in
     line-more _ _ _ k _ _ n _ _ f _ _ g (c .if1 .taken)
 
 returns-6 : tie.Need-returns-6
-returns-6 c = let k = sym (c .before .before .before .before .before .before .before .before .before .before .before .before .before .before .before .before .before .before .kind .given .1) ∙ c .before .before .before .before .before .before .before .before .before .before .before .before .before .before .before .before .before .before .before .before .read-kind .ensures in
-    let n = sym (c .before .before .before .before .before .before .before .before .before .before .before .before .before .before .first .given .1) ∙ c .before .before .before .before .before .before .before .before .before .before .before .before .before .before .before .before .read-number .ensures in
-    let f = sym (c .before .before .before .before .before .before .before .before .second .given .1) ∙ for-use _ _ _ (c .before .before .before .before .before .before .before .before .before .before .read-field .ensures) (c .before .before .before .before .before .before .before .before .before .before .before .before .has-second .ensures) in
-    let g = sym (c .before .before .id .given .1) ∙ for-use _ _ _ (c .before .before .before .before .read-field2 .ensures) (c .before .before .before .before .before .before .has-id .ensures) in
+returns-6 c = let at-id = c .before .before in
+    let at-second = at-id .before .before .before .before .before .before in
+    let at-first = at-second .before .before .before .before .before .before in
+    let at-kind = at-first .before .before .before .before in
+    let k = sym (at-kind .kind .given .1) ∙ at-kind .before .before .read-kind .ensures in
+    let n = sym (at-first .first .given .1) ∙ at-first .before .before .read-number .ensures in
+    let f = sym (at-second .second .given .1) ∙ for-use _ _ _ (at-second .before .before .read-field .ensures) (at-second .before .before .before .before .has-second .ensures) in
+    let g = sym (at-id .id .given .1) ∙ for-use _ _ _ (at-id .before .before .read-field2 .ensures) (at-id .before .before .before .before .has-id .ensures) in
     line-step _ _ _ k _ _ n _ _ f _ _ g (c .if1 .left)
 
 pub read-line-spec : {M : Type 1} → statement M

@@ -18,7 +18,8 @@ is-proper-requires : tie.Need-is-proper-requires
 is-proper-requires c κs = search needs
 
 returns-3 : tie.Need-returns-3
-returns-3 c = second-bad _ _ _ (c .before .before .before .before .if1 .left) (c .before .before .before .if2 .left) _ _ (c .before .before .has-second .ensures) (c .before .is-proper .ensures) (not-true _ (c .if3 .taken))
+returns-3 c = let p = c .before .before in
+    second-bad _ _ _ (p .before .before .if1 .left) (p .before .if2 .left) _ _ (p .has-second .ensures) (c .before .is-proper .ensures) (not-true _ (c .if3 .taken))
 
 has-id-requires : tie.Need-has-id-requires
 has-id-requires c κs = search needs
@@ -27,7 +28,10 @@ is-proper-requires-2 : tie.Need-is-proper-requires-2
 is-proper-requires-2 c κs = search needs
 
 returns-4 : tie.Need-returns-4
-returns-4 c = id-says _ _ _ (c .before .before .before .before .before .before .if1 .left) (c .before .before .before .before .before .if2 .left) _ _ (c .before .before .before .before .has-second .ensures) (c .before .before .before .is-proper .ensures) (not-false _ (c .before .before .if3 .left)) _ _ (c .before .has-id .ensures) (c .is-proper2 .ensures)
+returns-4 c = let q = c .before .before in
+    let p = q .before .before in
+    id-says _ _ _ (p .before .before .if1 .left) (p .before .if2 .left) _ _ (p .has-second .ensures) (q .before .is-proper .ensures) (not-false _ (q .if3 .left))
+    _ _ (c .before .has-id .ensures) (c .is-proper2 .ensures)
 
 pub names-step-spec : {M : Type 1} → statement M
 names-step-spec =
