@@ -12,7 +12,7 @@ use Rattle.rules.specs.LinePlaces.{textAt, to-place, to-none}
 
 pub behind-turn : (line text : List ℕ) (i j : ℕ) → i < length line → j < length text → getD line i 0 ≡ getD text j 0 → behind (drop j text) (drop i line) ≡ behind (drop (j + 1) text) (drop (i + 1) line)
 unfolding behind
-behind-turn line text i j p q e = rw (drop-cons line i 0 p, drop-cons text j 0 q, add-one, add-one, eq-eqb (getD text j 0) (getD line i 0) (sym e))
+behind-turn line text i j p q e = rw (drop-cons line i 0 p, drop-cons text j 0 q, add-one i, add-one j, eq-eqb (getD text j 0) (getD line i 0) (sym e))
 
 pub behind-short : (line text : List ℕ) (i j : ℕ) → length line ≤ i → j < length text → behind (drop j text) (drop i line) ≡ refused
 unfolding behind

@@ -1,7 +1,7 @@
 -- A line, written: how long it is, when it may be written, and the buffer that four pieces make. Assumes nothing.
-use mathlib.Core.Path.{_≡_, ap, _∙_}
+use mathlib.Core.Path.{_≡_, sym, ap, _∙_}
 use mathlib.Core.Bool.{Bool, true, false}
-use mathlib.Core.List.{List, [], _++_, append-assoc}
+use mathlib.Core.List.{List, _++_, append-assoc}
 use Prim.Native.Nat.{ℕ, _+_, _≤_, _<_}
 use native.Mathlib.Omega.{arith}
 use borrow.Author.Tests.{lt-ltb, le-ltb, eq-eqb, ne-eqb}
@@ -9,9 +9,10 @@ use lib.ListN.{length, length-append}
 use Rattle.rules.specs.Number.{digits}
 use Rattle.rules.specs.NumberLaws.{below, by-test}
 use Rattle.rules.specs.Lines.{lead, toName, idName, hasSecond, hasId, field, textOf, namesStep}
+use Rattle.rules.specs.LineLaws.{step-says}
 use Rattle.rules.specs.Runs.{firstGiven}
-use Rattle.rules.specs.Put.{put, put-put}
-use Rattle.rules.specs.Writing.{checkOf, textFor}
+use Rattle.rules.specs.Put.{put, put-nil, put-put}
+use Rattle.rules.specs.Writing.{checkOf, textFor, Filled}
 
 pub line-length : (kind first second i : ℕ) → length (textOf kind first second i) ≡ length (lead kind) + length (digits first) + length (field (hasSecond kind) toName second) + length (field (hasId kind) idName i)
 unfolding textOf
@@ -31,25 +32,34 @@ module _ (kind first second i room : ℕ) where
   unfolding checkOf firstGiven
   check-ok s h = rw (s, le-ltb room (length (textOf kind first second i)) h)
 
-  pub text-none : (checkOf kind first second i room ≡ 0 → ⊥) → textFor kind first second i room ≡ []
-  unfolding textFor
-  text-none h = rw (ne-eqb (checkOf kind first second i room) 0 h)
-
-  -- what the check leaves to be known: the numbers name a step, its line fits, and it is what is to be written
-  pub record Ready : Type 0 where
-    pub step : namesStep kind second i ≡ true
-    pub room-is : length (textOf kind first second i) ≤ room
-    pub text : textFor kind first second i room ≡ textOf kind first second i
-
-  pub ready : checkOf kind first second i room ≡ 0 → Ready
-  unfolding textFor
+  ready : checkOf kind first second i room ≡ 0 → (namesStep kind second i ≡ true) × (length (textOf kind first second i) ≤ room)
   ready h =
       by-test (namesStep kind second i)
       (λ s.
       below room (length (textOf kind first second i))
       (λ l. absurd (let z : _≡_ {A = ℕ} 13 0 = check-room s l ∙ h in omega arith))
-      (λ l. record { step = s; room-is = l; text = rw (eq-eqb (checkOf kind first second i room) 0 h) }))
+      (λ l. (s, l)))
       (λ s. absurd (let z : _≡_ {A = ℕ} 11 0 = check-step s ∙ h in omega arith))
+
+  -- what the check leaves to be known
+  pub may-lay : (r : ℕ) → r ≡ checkOf kind first second i room → r ≡ 0 → (1 ≤ kind) × (kind ≤ 8) × (length (textOf kind first second i) ≤ room)
+  may-lay r e z =
+      let d = ready (sym e ∙ z) in
+      let t = step-says kind second i (d .0) in
+      (t .0, t .1, d .1)
+
+module _ (kind first second i : ℕ) (out : List ℕ) where
+  pub filled-none : (r : ℕ) → r ≡ checkOf kind first second i (length out) → (r ≡ 0 → ⊥) → Filled kind first second i out out 0
+  unfolding textFor
+  filled-none r e h =
+      let f = ne-eqb (checkOf kind first second i (length out)) 0 (λ z. h (e ∙ z)) in
+      record { count = rw f; bytes = rw f (sym (put-nil out 0)) }
+
+  pub filled-line : (after : List ℕ) (n r : ℕ) → r ≡ checkOf kind first second i (length out) → r ≡ 0 → n ≡ length (textOf kind first second i) → after ≡ put out 0 (textOf kind first second i) → Filled kind first second i out after n
+  unfolding textFor
+  filled-line after n r e z count bytes =
+      let t = eq-eqb (checkOf kind first second i (length out)) 0 (sym e ∙ z) in
+      record { count = rw t count; bytes = rw t bytes }
 
 -- ---- four pieces, one behind the other
 module _ (out : List ℕ) (p q r s : List ℕ) where

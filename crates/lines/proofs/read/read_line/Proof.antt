@@ -1,6 +1,6 @@
 -- `lines::read::read_line`: `k`, `n`, `f` and `g` are what was read so far of the kind, the first number and the two further ones.
 -- Assumes nothing.
-use mathlib.Core.Path.{_≡_, sym, _∙_}
+use mathlib.Core.Path.{sym, _∙_}
 use Rattle.lines.proofs.Fields.{for-use}
 use Rattle.lines.proofs.Readings.{line-kind, line-first, line-second, line-id, line-more, line-step, b-within, d-within}
 use borrow.Author.Needs.{needs}
