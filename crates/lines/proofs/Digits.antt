@@ -16,7 +16,7 @@ use Rattle.rules.specs.Number.{digitOf, digitRun, fair, judged, readNumber}
 use Rattle.rules.specs.NumberLaws.{run-stop, run-front, run-grows, fair-large, fair-empty}
 use Rattle.rules.specs.LinePlaces.{numberAt, to-place, to-none}
 
-pub run-turn : (line : List ℕ) (v i : ℕ) → i < length line → digitOf (getD line i 0) < 10 → digitRun v (drop i line) ≡ digitRun (v * 10 + digitOf (getD line i 0)) (drop (i + 1) line)
+run-turn : (line : List ℕ) (v i : ℕ) → i < length line → digitOf (getD line i 0) < 10 → digitRun v (drop i line) ≡ digitRun (v * 10 + digitOf (getD line i 0)) (drop (i + 1) line)
 unfolding digitRun
 run-turn line v i h s = rw (drop-cons line i 0 h, add-one, lt-ltb (digitOf (getD line i 0)) 10 s)
 
@@ -31,7 +31,7 @@ pub run-other : (line : List ℕ) (v i : ℕ) → i < length line → 10 ≤ dig
 run-other line v i h s = run-stop v (drop i line) (rw (drop-cons line i 0 h) s)
 
 -- more digits do not bring a value back under 2 ^ 64
-pub over : (xs ys : List ℕ) (v : ℕ) → digitRun v ys ≡ digitRun 0 xs → 2 ^ 64 ≤ v → readNumber xs ≡ refused
+over : (xs ys : List ℕ) (v : ℕ) → digitRun v ys ≡ digitRun 0 xs → 2 ^ 64 ≤ v → readNumber xs ≡ refused
 unfolding readNumber judged
 over xs ys v e h =
     let f = run-front 0 xs in
@@ -39,13 +39,13 @@ over xs ys v e h =
     rw (f .2, fair-large (getD xs 0 0) (length xs - length (f .1)) (f .0) (omega arith))
 
 -- the judgement, by places in the line
-pub judged-at : (line : List ℕ) (place i v : ℕ) → place ≤ i → i ≤ length line → digitRun 0 (drop place line) ≡ front v (drop i line) → readNumber (drop place line) ≡ pick (fair (getD line place 0) (i - place) v) (front v (drop i line)) refused
+judged-at : (line : List ℕ) (place i v : ℕ) → place ≤ i → i ≤ length line → digitRun 0 (drop place line) ≡ front v (drop i line) → readNumber (drop place line) ≡ pick (fair (getD line place 0) (i - place) v) (front v (drop i line)) refused
 unfolding readNumber judged
 judged-at line place i v p q e =
     let k : length (drop place line) - length (drop i line) ≡ i - place = omega (arith, length-drop place line, length-drop i line) in
     rw (e, k, getD-drop place line 0 0, add-zero)
 
-pub judged-empty : (xs : List ℕ) (v : ℕ) → digitRun 0 xs ≡ front v xs → readNumber xs ≡ refused
+judged-empty : (xs : List ℕ) (v : ℕ) → digitRun 0 xs ≡ front v xs → readNumber xs ≡ refused
 unfolding readNumber judged
 judged-empty xs v e = let k : length xs - length xs ≡ 0 = omega arith in rw (e, k, fair-empty (getD xs 0 0) v)
 

@@ -28,7 +28,7 @@ field-on used name line place v i r u e n = rw (u, text-says line place name v i
 pub for-use : {u w : Bool} {r : Piece} (name line : List ℕ) (place : ℕ) → r ≡ fieldAt u name line place → u ≡ w → r ≡ fieldAt w name line place
 for-use name line place e q = rw (← q) e
 
-pub field-length : (used : Bool) (name : List ℕ) (n : ℕ) → length (field used name n) ≡ cond used (length name + length (digits n)) 0
+field-length : (used : Bool) (name : List ℕ) (n : ℕ) → length (field used name n) ≡ cond used (length name + length (digits n)) 0
 unfolding field
 field-length true name n = length-append name (digits n)
 field-length false name n = refl

@@ -14,15 +14,15 @@ pub behind-turn : (line text : List ℕ) (i j : ℕ) → i < length line → j <
 unfolding behind
 behind-turn line text i j p q e = rw (drop-cons line i 0 p, drop-cons text j 0 q, add-one i, add-one j, eq-eqb (getD text j 0) (getD line i 0) (sym e))
 
-pub behind-short : (line text : List ℕ) (i j : ℕ) → length line ≤ i → j < length text → behind (drop j text) (drop i line) ≡ refused
+behind-short : (line text : List ℕ) (i j : ℕ) → length line ≤ i → j < length text → behind (drop j text) (drop i line) ≡ refused
 unfolding behind
 behind-short line text i j p q = rw (drop-of-length-le line p, drop-cons text j 0 q)
 
-pub behind-other : (line text : List ℕ) (i j : ℕ) → i < length line → j < length text → (getD line i 0 ≡ getD text j 0 → ⊥) → behind (drop j text) (drop i line) ≡ refused
+behind-other : (line text : List ℕ) (i j : ℕ) → i < length line → j < length text → (getD line i 0 ≡ getD text j 0 → ⊥) → behind (drop j text) (drop i line) ≡ refused
 unfolding behind
 behind-other line text i j p q e = rw (drop-cons line i 0 p, drop-cons text j 0 q, ne-eqb (getD text j 0) (getD line i 0) (λ k. e (sym k)))
 
-pub behind-end : (line text : List ℕ) (i j : ℕ) → length text ≤ j → behind (drop j text) (drop i line) ≡ front 0 (drop i line)
+behind-end : (line text : List ℕ) (i j : ℕ) → length text ≤ j → behind (drop j text) (drop i line) ≡ front 0 (drop i line)
 unfolding behind
 behind-end line text i j p = rw (drop-of-length-le text p)
 
