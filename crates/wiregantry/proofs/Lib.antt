@@ -1,0 +1,4 @@
+pub mod Handed
+pub mod OnFresh
+pub mod OnStep
+pub mod Outcomes
