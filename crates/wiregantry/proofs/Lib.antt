@@ -2,3 +2,4 @@ pub mod Handed
 pub mod OnFresh
 pub mod OnStep
 pub mod Outcomes
+pub mod Naming
