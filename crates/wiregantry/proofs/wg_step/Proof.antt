@@ -4,7 +4,6 @@
 -- Assumes nothing.
 use mathlib.Core.Path.{_≡_, refl, sym, _∙_}
 use Prim.Native.Nat.{ℕ, _<_, _^_}
-use native.Mathlib.Omega.{arith}
 use mathlib.Core.List.{[], _∷_, List}
 use lib.Dec.{lit<}
 use lib.ListN.{length}
@@ -16,14 +15,14 @@ use base.Logic.{SProp, ent, sep, emp, via, fst∗, id⊢}
 use base.Fml.{GName, Lft, Share, ftrue, fat, fres, flft}
 use prog.Memory.{Memory}
 use prog.Routine.{Routine}
-use prog.Wp.{Heap, Env, Calls, Loops, WpFn, Tables}
+use prog.Wp.{Heap, Calls, Loops, WpFn, Tables}
 use ghost.Atoms.{Atoms, sem}
 use contract.Monad.{Fun}
 use contract.Running.{givenOf, tables, tablesOf}
-use types.Kit.{Given, ‵, atRet, _⊛_, _$_, _∵_, !, qed, by, move, keep, use1, rewrite, drop, split, join, fsplit, fjoin, suffices, frame, done}
-use types.Run.{look, store, init, forget, stop, hop, fld, from, load, lit, addr, and-then, no-more, of-opd, assigns, assigns-last, first, exec, land, returns, returns-within, enter, alloc1, alloc0, params1, pass1, pass0, free1, free0}
+use types.Kit.{Given, ‵, _⊛_, _$_, _∵_, !, qed, by, move, keep, use1, rewrite, drop, split, join, fsplit, fjoin, suffices, frame, done}
+use types.Run.{look, store, init, forget, stop, hop, fld, from, load, lit, addr, and-then, no-more, of-opd, assigns, land, returns, returns-within, enter, alloc1, alloc0, params1, pass1, pass0, free1, free0}
 use types.Part.{agg, whole, sub, look-in}
-use types.Match.{vrt, look-tag, in-variant, by-variants}
+use types.Match.{vrt, look-tag, in-variant}
 use sound.WpLaws.{FmC, fmOf, WpFn-mono}
 use denote.RattleType.{owns}
 use denote.Laws.{Is}
@@ -52,7 +51,7 @@ use Rattle.rules.specs.Runs.{lent}
 use Rattle.rules.specs.StepLines.{stepFor}
 use Rattle.ledger.proofs.Lent.{ref, typed, told, is-at}
 use Rattle.parcels.proofs.Calls.{calls-value}
-use Rattle.wiregantry.proofs.Handed.{env, unlocks-uint, locks-uint, leaves-slice, leaves-ref, told-enum, is-enum}
+use Rattle.wiregantry.proofs.Handed.{binds, else-runs, unlocks-uint, locks-uint, leaves-slice, leaves-ref, told-enum, is-enum}
 use Rattle.wiregantry.proofs.OnStep.{OneStep, sizes-val, gave-step}
 use Rattle.wiregantry.proofs.Outcomes.{by-name, called-none, called}
 use Rattle.rules.proofs.Answer as N
@@ -76,7 +75,6 @@ use Rattle.wiregantry.proofs.wg_step.Key.{name as #wiregantry·wg-step}
 use Rattle.wiregantry.proofs.wg_step as wg-step
 use Rattle.wiregantry.proofs.wg_step.Statement as stated
 use Rattle.wiregantry.proofs.wg_step.Code as code
-use Rattle.wiregantry.proofs.wg_step.Code.Mir as pieces
 
 abbrev stayed : Stays (wg-step.ended .signature .params) (wg-step.ended .kept)
 stayed = (
@@ -166,7 +164,6 @@ module _ {M : Type 1} (𝓤 : URA M) (H : Heap 𝓤) (A : Atoms 𝓤) (W : Given
         qed W ((‵ (flft κ₀ q₀) ⊛ (‵ (flft κ₁ q₁) ⊛ (‵ (flft κ₂ q₂) ⊛ (‵ (flft κ₃ q₃) ⊛ ‵ ftrue)))) ∷ ‵ (owns (MutSlice (named 0) κ₀ u64 ∷ MutSlice (named 1) κ₁ P.the-row ∷ MutRef (named 2) κ₂ T.the-row ∷ u64 ∷ u64 ∷ u64 ∷ u64 ∷ u64 ∷ u64 ∷ MutRef (named 3) κ₃ u64 ∷ []) a vals) ∷ []) ∵
         enter ! C Λ code.function (s₀ ∷ s₁ ∷ vptr b₂ o₂ ∷ vint w64 n ∷ vint w64 c ∷ vint w64 kind ∷ vint w64 one ∷ vint w64 two ∷ vint w64 id ∷ vptr b₃ o₃ ∷ []) _ $
         alloc1 ! (λ l₀. alloc1 ! (λ l₁. alloc1 ! (λ l₂. alloc1 ! (λ l₃. alloc1 ! (λ l₄. alloc1 ! (λ l₅. alloc1 ! (λ l₆. alloc1 ! (λ l₇. alloc1 ! (λ l₈. alloc1 ! (λ l₉. alloc1 ! (λ l₁₀. alloc1 ! (λ l₁₁. alloc1 ! (λ l₁₂. alloc1 ! (λ l₁₃. alloc1 ! (λ l₁₄. alloc1 ! (λ l₁₅. alloc1 ! (λ l₁₆. alloc1 ! (λ l₁₇. alloc1 ! (λ l₁₈. alloc1 ! (λ l₁₉. alloc0 ! $ params1 ! $
-        let E : Env 𝓤 H = env pieces.locals (l₀ ∷ l₁ ∷ l₂ ∷ l₃ ∷ l₄ ∷ l₅ ∷ l₆ ∷ l₇ ∷ l₈ ∷ l₉ ∷ l₁₀ ∷ l₁₁ ∷ l₁₂ ∷ l₁₃ ∷ l₁₄ ∷ l₁₅ ∷ l₁₆ ∷ l₁₇ ∷ l₁₈ ∷ l₁₉ ∷ []) in
         pass1 ! (init ! 36 refl (tt, (tt, (record { fits = room₀ .0 }, tt)))) $ pass1 ! (init ! 34 refl (tt, (tt, (record { fits = room₁ .0 }, tt)))) $ pass1 ! (init ! 32 refl (tt, tt)) $
         pass1 ! (init ! 30 refl (tt, record { fits = n-fits })) $ pass1 ! (init ! 28 refl (tt, record { fits = c-fits })) $ pass1 ! (init ! 26 refl (tt, record { fits = kind-fits })) $ pass1 ! (init ! 24 refl (tt, record { fits = one-fits })) $
         pass1 ! (init ! 22 refl (tt, record { fits = two-fits })) $ pass1 ! (init ! 20 refl (tt, record { fits = id-fits })) $ pass1 ! (init ! 18 refl (tt, tt)) $ pass0 ! $
@@ -182,49 +179,38 @@ module _ {M : Type 1} (𝓤 : URA M) (H : Heap 𝓤) (A : Atoms 𝓤) (W : Given
         -- a step
         (λ step e′. let is-named = is-enum D.the-type D′.the-laws named (IsStep step) v is e′ in let is-step = EL.owed D.the-type D′.the-laws (IsStep step) _ is-named .0 in
         land ! (from ! (stop !)) (init ! 18 refl (EL.lawful D.the-type D′.the-laws 𝓤 H A W tt .typed named _ is .0)) $ rewrite ! 18 (λ (u : Val). ‵ (fat fullShare D′.mir l₁₄ 0 u)) (told-enum D.the-type D′.the-laws named (IsStep step) v is e′) refl $
-        first ! $ by-variants ! 18 (whole !) (load ! (from ! (vrt ! refl (fld ! refl (stop !)))) (look-tag ! 18 (whole !))) tt (
-          (λ _.
-              assigns-last ! (of-opd ! (load ! (from ! (vrt ! refl (fld ! refl (stop !)))) (look-in ! 18 (in-variant ! 0 0 refl refl (whole !))))) (from ! (stop !)) (init ! 24 refl (EL.lawful Q.the-type Q′.the-laws 𝓤 H A W tt .typed step _ is-step .0)) $
-              exec ! C Λ E pieces.t-3 (atRet E Post) $
-              assigns ! (agg ! (and-then ! (load ! (from ! (stop !)) (look ! 38 refl)) (and-then ! (load ! (from ! (stop !)) (look ! 36 refl)) (no-more !)))) (from ! (stop !)) (init ! 22 refl (typed U.the-type U′.the-laws 𝓤 H A W sizes _ is-sizes .0)) $
-              assigns ! (addr ! (from ! (fld ! refl (hop ! (look-in ! 44 (sub ! 0 refl (whole !))) (stop !))))) (from ! (stop !)) (init ! 16 refl (tt, tt)) $
-              assigns ! (agg ! (and-then ! (load ! (from ! (stop !)) (look ! 16 refl)) (and-then ! (load ! (from ! (fld ! refl (stop !))) (look-in ! 44 (sub ! 1 refl (whole !)))) (no-more !)))) (from ! (stop !)) (init ! 14 refl (tt, (tt, (record { fits = room₀ .0 }, tt)))) $
-              assigns ! (addr ! (from ! (fld ! refl (hop ! (look-in ! 42 (sub ! 0 refl (whole !))) (stop !))))) (from ! (stop !)) (init ! 12 refl (tt, tt)) $
-              assigns ! (agg ! (and-then ! (load ! (from ! (stop !)) (look ! 12 refl)) (and-then ! (load ! (from ! (fld ! refl (stop !))) (look-in ! 42 (sub ! 1 refl (whole !)))) (no-more !)))) (from ! (stop !)) (init ! 10 refl (tt, (tt, (record { fits = room₁ .0 }, tt)))) $
-              assigns ! (addr ! (from ! (hop ! (look ! 40 refl) (stop !)))) (from ! (stop !)) (init ! 8 refl (tt, tt)) $
-              gave-step ! mem run fm known-step ws ss h sizes step (length ws) (length ss) b₀ o₀ b₁ o₁ b₂ o₂ κ₀ κ₁ κ₂ q₀ q₁ q₂ γ₀ γ₁ γ₂ is-sizes is-step
-              (and-then ! (load ! (from ! (stop !)) (look ! 9 refl)) (and-then ! (load ! (from ! (stop !)) (look ! 5 refl)) (and-then ! (load ! (from ! (stop !)) (look ! 3 refl)) (and-then ! (load ! (from ! (stop !)) (look ! 17 refl)) (and-then ! (load ! (from ! (stop !)) (look ! 19 refl)) (no-more !)))))) (λ w r zs₀ zs₁ k did len₀ len₁ is-r.
-              -- [what says the last words, the last slots and the last ledger; the tokens; value; its token; local i at 8 + 2 · (19 − i)]
-              land ! (from ! (stop !)) (init ! 20 refl (typed N.the-type N′.the-laws 𝓤 H A W r _ is-r .0)) $ rewrite ! 20 (λ (u : Val). ‵ (fat fullShare N′.mir l₁₃ 0 u)) (told N.the-type N′.the-laws r r w is-r refl) refl $
-              let fields = LL.owed N.the-type N′.the-laws r _ (is-at N.the-type N′.the-laws r r w is-r refl) in
-              move ! (6 ∷ 7 ∷ []) $ unlocks-uint ! tt w64 b₃ o₃ m (λ _.
-              -- [the number's cell; what shuts it, in three; the last words, slots and ledger; the tokens; local i at 10 + 2 · (19 − i)]
-              assigns ! (of-opd ! (load ! (from ! (fld ! refl (stop !))) (look-in ! 22 (sub ! 1 refl (whole !))))) (from ! (hop ! (look ! 28 refl) (stop !))) (store ! 0 refl (tt, record { fits = fields .1 .0 .1 })) $
-              assigns ! (of-opd ! (load ! (from ! (fld ! refl (stop !))) (look-in ! 22 (sub ! 0 refl (whole !))))) (from ! (stop !)) (init ! 48 refl (tt, record { fits = fields .0 .1 })) $
-              locks-uint ! tt w64 b₃ o₃ (r .value) (fields .1 .0 .1) $
-              -- [value; its token; the last words, slots and ledger; the tokens; local i at 8 + 2 · (19 − i)]
-              returns ! (look ! 46 refl) $ forget ! 8 refl $ forget ! 10 refl $ forget ! 12 refl $ forget ! 14 refl $ forget ! 16 refl $ forget ! 18 refl $ forget ! 20 refl $ forget ! 22 refl $ forget ! 24 refl $ forget ! 26 refl $ forget ! 28 refl $ forget ! 30 refl $ forget ! 32 refl $ forget ! 34 refl $ forget ! 36 refl $ forget ! 38 refl $ forget ! 40 refl $ forget ! 42 refl $ forget ! 44 refl $ forget ! 46 refl $ move ! (46 ∷ 47 ∷ []) $ free1 ! $ move ! (44 ∷ 45 ∷ []) $ free1 ! $ move ! (42 ∷ 43 ∷ []) $ free1 ! $ move ! (40 ∷ 41 ∷ []) $ free1 ! $ move ! (38 ∷ 39 ∷ []) $ free1 ! $ move ! (36 ∷ 37 ∷ []) $ free1 ! $ move ! (34 ∷ 35 ∷ []) $ free1 ! $ move ! (32 ∷ 33 ∷ []) $ free1 ! $ move ! (30 ∷ 31 ∷ []) $ free1 ! $ move ! (28 ∷ 29 ∷ []) $ free1 ! $ move ! (26 ∷ 27 ∷ []) $ free1 ! $ move ! (24 ∷ 25 ∷ []) $ free1 ! $ move ! (22 ∷ 23 ∷ []) $ free1 ! $ move ! (20 ∷ 21 ∷ []) $ free1 ! $ move ! (18 ∷ 19 ∷ []) $ free1 ! $ move ! (16 ∷ 17 ∷ []) $ free1 ! $ move ! (14 ∷ 15 ∷ []) $ free1 ! $ move ! (12 ∷ 13 ∷ []) $ free1 ! $ move ! (10 ∷ 11 ∷ []) $ free1 ! $ move ! (8 ∷ 9 ∷ []) $ free1 ! $ free0 ! $
-              keep ! (0 ∷ 1 ∷ 2 ∷ 3 ∷ 4 ∷ 5 ∷ 6 ∷ 7 ∷ []) $ by ! (exits (r .refusal) (r .value) zs₀ zs₁ k (called sizes (lent ws ss h) kind one two id step r (lent zs₀ zs₁ k) (sym e ∙ e′) did) len₀ len₁ (fields .0 .1))))),
-          ((λ bad. absurd (let z : _≡_ {A = ℕ} 0 1 = bad in omega arith)), tt),
-        ))
+        binds ! (load ! (from ! (vrt ! refl (fld ! refl (stop !)))) (look-tag ! 18 (whole !))) (of-opd ! (load ! (from ! (vrt ! refl (fld ! refl (stop !)))) (look-in ! 18 (in-variant ! 0 0 refl refl (whole !))))) (from ! (stop !)) (init ! 24 refl (EL.lawful Q.the-type Q′.the-laws 𝓤 H A W tt .typed step _ is-step .0)) $
+        assigns ! (agg ! (and-then ! (load ! (from ! (stop !)) (look ! 38 refl)) (and-then ! (load ! (from ! (stop !)) (look ! 36 refl)) (no-more !)))) (from ! (stop !)) (init ! 22 refl (typed U.the-type U′.the-laws 𝓤 H A W sizes _ is-sizes .0)) $
+        assigns ! (addr ! (from ! (fld ! refl (hop ! (look-in ! 44 (sub ! 0 refl (whole !))) (stop !))))) (from ! (stop !)) (init ! 16 refl (tt, tt)) $
+        assigns ! (agg ! (and-then ! (load ! (from ! (stop !)) (look ! 16 refl)) (and-then ! (load ! (from ! (fld ! refl (stop !))) (look-in ! 44 (sub ! 1 refl (whole !)))) (no-more !)))) (from ! (stop !)) (init ! 14 refl (tt, (tt, (record { fits = room₀ .0 }, tt)))) $
+        assigns ! (addr ! (from ! (fld ! refl (hop ! (look-in ! 42 (sub ! 0 refl (whole !))) (stop !))))) (from ! (stop !)) (init ! 12 refl (tt, tt)) $
+        assigns ! (agg ! (and-then ! (load ! (from ! (stop !)) (look ! 12 refl)) (and-then ! (load ! (from ! (fld ! refl (stop !))) (look-in ! 42 (sub ! 1 refl (whole !)))) (no-more !)))) (from ! (stop !)) (init ! 10 refl (tt, (tt, (record { fits = room₁ .0 }, tt)))) $
+        assigns ! (addr ! (from ! (hop ! (look ! 40 refl) (stop !)))) (from ! (stop !)) (init ! 8 refl (tt, tt)) $
+        gave-step ! mem run fm known-step ws ss h sizes step (length ws) (length ss) b₀ o₀ b₁ o₁ b₂ o₂ κ₀ κ₁ κ₂ q₀ q₁ q₂ γ₀ γ₁ γ₂ is-sizes is-step
+        (and-then ! (load ! (from ! (stop !)) (look ! 9 refl)) (and-then ! (load ! (from ! (stop !)) (look ! 5 refl)) (and-then ! (load ! (from ! (stop !)) (look ! 3 refl)) (and-then ! (load ! (from ! (stop !)) (look ! 17 refl)) (and-then ! (load ! (from ! (stop !)) (look ! 19 refl)) (no-more !)))))) (λ w r zs₀ zs₁ k did len₀ len₁ is-r.
+        -- [what says the last words, the last slots and the last ledger; the tokens; value; its token; local i at 8 + 2 · (19 − i)]
+        land ! (from ! (stop !)) (init ! 20 refl (typed N.the-type N′.the-laws 𝓤 H A W r _ is-r .0)) $ rewrite ! 20 (λ (u : Val). ‵ (fat fullShare N′.mir l₁₃ 0 u)) (told N.the-type N′.the-laws r r w is-r refl) refl $
+        let fields = LL.owed N.the-type N′.the-laws r _ (is-at N.the-type N′.the-laws r r w is-r refl) in
+        move ! (6 ∷ 7 ∷ []) $ unlocks-uint ! tt w64 b₃ o₃ m (λ _.
+        -- [the number's cell; what shuts it, in three; the last words, slots and ledger; the tokens; local i at 10 + 2 · (19 − i)]
+        assigns ! (of-opd ! (load ! (from ! (fld ! refl (stop !))) (look-in ! 22 (sub ! 1 refl (whole !))))) (from ! (hop ! (look ! 28 refl) (stop !))) (store ! 0 refl (tt, record { fits = fields .1 .0 .1 })) $
+        assigns ! (of-opd ! (load ! (from ! (fld ! refl (stop !))) (look-in ! 22 (sub ! 0 refl (whole !))))) (from ! (stop !)) (init ! 48 refl (tt, record { fits = fields .0 .1 })) $
+        locks-uint ! tt w64 b₃ o₃ (r .value) (fields .1 .0 .1) $
+        -- [value; its token; the last words, slots and ledger; the tokens; local i at 8 + 2 · (19 − i)]
+        returns ! (look ! 46 refl) $ forget ! 8 refl $ forget ! 10 refl $ forget ! 12 refl $ forget ! 14 refl $ forget ! 16 refl $ forget ! 18 refl $ forget ! 20 refl $ forget ! 22 refl $ forget ! 24 refl $ forget ! 26 refl $ forget ! 28 refl $ forget ! 30 refl $ forget ! 32 refl $ forget ! 34 refl $ forget ! 36 refl $ forget ! 38 refl $ forget ! 40 refl $ forget ! 42 refl $ forget ! 44 refl $ forget ! 46 refl $ move ! (46 ∷ 47 ∷ []) $ free1 ! $ move ! (44 ∷ 45 ∷ []) $ free1 ! $ move ! (42 ∷ 43 ∷ []) $ free1 ! $ move ! (40 ∷ 41 ∷ []) $ free1 ! $ move ! (38 ∷ 39 ∷ []) $ free1 ! $ move ! (36 ∷ 37 ∷ []) $ free1 ! $ move ! (34 ∷ 35 ∷ []) $ free1 ! $ move ! (32 ∷ 33 ∷ []) $ free1 ! $ move ! (30 ∷ 31 ∷ []) $ free1 ! $ move ! (28 ∷ 29 ∷ []) $ free1 ! $ move ! (26 ∷ 27 ∷ []) $ free1 ! $ move ! (24 ∷ 25 ∷ []) $ free1 ! $ move ! (22 ∷ 23 ∷ []) $ free1 ! $ move ! (20 ∷ 21 ∷ []) $ free1 ! $ move ! (18 ∷ 19 ∷ []) $ free1 ! $ move ! (16 ∷ 17 ∷ []) $ free1 ! $ move ! (14 ∷ 15 ∷ []) $ free1 ! $ move ! (12 ∷ 13 ∷ []) $ free1 ! $ move ! (10 ∷ 11 ∷ []) $ free1 ! $ move ! (8 ∷ 9 ∷ []) $ free1 ! $ free0 ! $
+        keep ! (0 ∷ 1 ∷ 2 ∷ 3 ∷ 4 ∷ 5 ∷ 6 ∷ 7 ∷ []) $ by ! (exits (r .refusal) (r .value) zs₀ zs₁ k (called sizes (lent ws ss h) kind one two id step r (lent zs₀ zs₁ k) (sym e ∙ e′) did) len₀ len₁ (fields .0 .1)))))
         -- no step
         (λ e′.
         land ! (from ! (stop !)) (init ! 18 refl (EL.lawful D.the-type D′.the-laws 𝓤 H A W tt .typed named _ is .0)) $ rewrite ! 18 (λ (u : Val). ‵ (fat fullShare D′.mir l₁₄ 0 u)) (told-enum D.the-type D′.the-laws named NoStep v is e′) refl $
-        first ! $ by-variants ! 18 (whole !) (load ! (from ! (vrt ! refl (fld ! refl (stop !)))) (look-tag ! 18 (whole !))) tt (
-          (λ bad. absurd (let z : _≡_ {A = ℕ} 1 0 = bad in omega arith)),
-          (
-            (λ _.
-                move ! (6 ∷ 7 ∷ []) $ unlocks-uint ! tt w64 b₃ o₃ m (λ _.
-                -- [the number's cell; what shuts it, in three; the tokens; words; slots; ledger; local i at 10 + 2 · (19 − i)]
-                assigns ! (of-opd ! (lit ! tt)) (from ! (hop ! (look ! 28 refl) (stop !))) (store ! 0 refl (tt, record { fits = lit< tt })) $
-                assigns ! (of-opd ! (lit ! tt)) (from ! (stop !)) (init ! 48 refl (tt, record { fits = lit< tt })) $
-                locks-uint ! tt w64 b₃ o₃ 0 (lit< tt) $
-                -- [value; its token; the tokens; words; slots; ledger; local i at 8 + 2 · (19 − i)]
-                returns-within ! Post refl (look ! 46 refl) $ forget ! 18 refl $ forget ! 26 refl $ forget ! 28 refl $ forget ! 30 refl $ forget ! 32 refl $ forget ! 34 refl $ forget ! 36 refl $ forget ! 38 refl $ forget ! 40 refl $ forget ! 42 refl $ forget ! 44 refl $ forget ! 46 refl $ move ! (46 ∷ 47 ∷ []) $ free1 ! $ move ! (44 ∷ 45 ∷ []) $ free1 ! $ move ! (42 ∷ 43 ∷ []) $ free1 ! $ move ! (40 ∷ 41 ∷ []) $ free1 ! $ move ! (38 ∷ 39 ∷ []) $ free1 ! $ move ! (36 ∷ 37 ∷ []) $ free1 ! $ move ! (34 ∷ 35 ∷ []) $ free1 ! $ move ! (32 ∷ 33 ∷ []) $ free1 ! $ move ! (30 ∷ 31 ∷ []) $ free1 ! $ move ! (28 ∷ 29 ∷ []) $ free1 ! $ move ! (26 ∷ 27 ∷ []) $ free1 ! $ move ! (24 ∷ 25 ∷ []) $ free1 ! $ move ! (22 ∷ 23 ∷ []) $ free1 ! $ move ! (20 ∷ 21 ∷ []) $ free1 ! $ move ! (18 ∷ 19 ∷ []) $ free1 ! $ move ! (16 ∷ 17 ∷ []) $ free1 ! $ move ! (14 ∷ 15 ∷ []) $ free1 ! $ move ! (12 ∷ 13 ∷ []) $ free1 ! $ move ! (10 ∷ 11 ∷ []) $ free1 ! $ move ! (8 ∷ 9 ∷ []) $ free1 ! $ free0 ! $
-                keep ! (0 ∷ 1 ∷ 2 ∷ 3 ∷ 4 ∷ 5 ∷ 6 ∷ 7 ∷ []) $ by ! (exits-none (sym e ∙ e′)))),
-            tt,
-          ),
-        )))))))))))))))))))))))
+        else-runs ! (load ! (from ! (vrt ! refl (fld ! refl (stop !)))) (look-tag ! 18 (whole !))) $
+        move ! (6 ∷ 7 ∷ []) $ unlocks-uint ! tt w64 b₃ o₃ m (λ _.
+        -- [the number's cell; what shuts it, in three; the tokens; words; slots; ledger; local i at 10 + 2 · (19 − i)]
+        assigns ! (of-opd ! (lit ! tt)) (from ! (hop ! (look ! 28 refl) (stop !))) (store ! 0 refl (tt, record { fits = lit< tt })) $
+        assigns ! (of-opd ! (lit ! tt)) (from ! (stop !)) (init ! 48 refl (tt, record { fits = lit< tt })) $
+        locks-uint ! tt w64 b₃ o₃ 0 (lit< tt) $
+        -- [value; its token; the tokens; words; slots; ledger; local i at 8 + 2 · (19 − i)]
+        returns-within ! Post refl (look ! 46 refl) $ forget ! 18 refl $ forget ! 26 refl $ forget ! 28 refl $ forget ! 30 refl $ forget ! 32 refl $ forget ! 34 refl $ forget ! 36 refl $ forget ! 38 refl $ forget ! 40 refl $ forget ! 42 refl $ forget ! 44 refl $ forget ! 46 refl $ move ! (46 ∷ 47 ∷ []) $ free1 ! $ move ! (44 ∷ 45 ∷ []) $ free1 ! $ move ! (42 ∷ 43 ∷ []) $ free1 ! $ move ! (40 ∷ 41 ∷ []) $ free1 ! $ move ! (38 ∷ 39 ∷ []) $ free1 ! $ move ! (36 ∷ 37 ∷ []) $ free1 ! $ move ! (34 ∷ 35 ∷ []) $ free1 ! $ move ! (32 ∷ 33 ∷ []) $ free1 ! $ move ! (30 ∷ 31 ∷ []) $ free1 ! $ move ! (28 ∷ 29 ∷ []) $ free1 ! $ move ! (26 ∷ 27 ∷ []) $ free1 ! $ move ! (24 ∷ 25 ∷ []) $ free1 ! $ move ! (22 ∷ 23 ∷ []) $ free1 ! $ move ! (20 ∷ 21 ∷ []) $ free1 ! $ move ! (18 ∷ 19 ∷ []) $ free1 ! $ move ! (16 ∷ 17 ∷ []) $ free1 ! $ move ! (14 ∷ 15 ∷ []) $ free1 ! $ move ! (12 ∷ 13 ∷ []) $ free1 ! $ move ! (10 ∷ 11 ∷ []) $ free1 ! $ move ! (8 ∷ 9 ∷ []) $ free1 ! $ free0 ! $
+        keep ! (0 ∷ 1 ∷ 2 ∷ 3 ∷ 4 ∷ 5 ∷ 6 ∷ 7 ∷ []) $ by ! (exits-none (sym e ∙ e′)))))))))))))))))))))))))
 
 module _ {M : Type 1} (𝓤 : URA M) (H : Heap 𝓤) (A : Atoms 𝓤) (W : Given 𝓤 H A) (mem : Memory → SProp 𝓤) (run : Routine → Fun 𝓤) where
   wg-step-walks : (C : Calls 𝓤 H) (Λ : Loops 𝓤 H) → FmC 𝓤 H (W .laws) C → Triple 𝓤 (C #step-for) (StepFor 𝓤 H A mem run) → Triple 𝓤 (C #sites·step) (OneStep 𝓤 H A mem run) → Walks 𝓤 H A wg-step.ended stayed (WpFn 𝓤 H C Λ code.function) (wg-step.clauses 𝓤 H A mem run)
