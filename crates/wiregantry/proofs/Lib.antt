@@ -2,4 +2,3 @@ pub mod Handed
 pub mod OnFresh
 pub mod OnStep
 pub mod Outcomes
-pub mod Naming

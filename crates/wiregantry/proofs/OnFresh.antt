@@ -2,7 +2,7 @@
 --     Fresh   that contract
 --     gave-fresh   from [the tokens of words, slots and ledger; the three references; Γ] to [what says the last words, the last slots and the last ledger; the tokens; Γ]. The operands are read where the context is [what `fresh` asks; Γ]
 -- Assumes `Given`, and of the table of calls `FmC` and that `fresh` meets its contract.
-use mathlib.Core.Path.{_≡_, refl}
+use mathlib.Core.Path.{_≡_}
 use Prim.Native.Nat.{ℕ}
 use mathlib.Core.List.{[], _∷_, List}
 use lib.ListN.{length}
@@ -24,7 +24,7 @@ use denote.Laws.{Is, shows}
 use denote.Builtin.{u32, u64}
 use denote.Ref.{RefT, MutRef}
 use denote.Slice.{sliceVal, MutSlice, finally}
-use denote.Steps.{nothing, heard, peeks, owned}
+use denote.Steps.{nothing, heard, peeks}
 use denote.Triple.Spec.{tripleOf}
 use denote.Triple.Statement.{Contract, Triple}
 use denote.Triple.Call.{calls-at}

@@ -2,7 +2,7 @@
 --     OneStep   that contract
 --     gave-step   from [the tokens of words, slots and ledger; the three references; Γ] to [what says the last words, the last slots and the last ledger; the tokens; Γ]. The operands are read where the context is [what `step` asks; Γ]
 -- Assumes `Given`, and of the table of calls `FmC` and that `step` meets its contract.
-use mathlib.Core.Path.{_≡_, refl}
+use mathlib.Core.Path.{_≡_}
 use Prim.Native.Nat.{ℕ}
 use mathlib.Core.List.{[], _∷_, List}
 use lib.ListN.{length}

@@ -1,14 +1,16 @@
 // What C calls. The functions here decide nothing: each hands on what it is lent to the crate that does the work, and gives back a number.
 // They stand in one crate because an archive exports the functions of its own crate only.
-mod named;
-
-use crate::named::step_for;
+use lines::step_for;
 use rules::Ledger;
 use rules::Named;
 use rules::Parcel;
 use rules::Run;
+ghost use mathlib.Core.Path.{_≡_};
+ghost use Rattle.rules.specs.Area.{readRefusal, areaAfter};
 ghost use Rattle.rules.specs.Calls.{Called};
+ghost use Rattle.rules.specs.Members.{Answered};
 ghost use Rattle.rules.specs.Runs.{lent, Freshened};
+ghost use Rattle.rules.specs.Writing.{checkOf, Filled};
 
 // A fresh run of these sizes: "every word, slot and counter 0".
 #[no_mangle]
@@ -55,4 +57,42 @@ pub extern "C" fn wg_step(
     let answer = sites::step(words, slots, ledger, run, step);
     *value = answer.value;
     answer.refusal
+}
+
+// Bulk membership: an answer for each id, in the bits of the answers.
+#[no_mangle]
+pub extern "C" fn wg_members(table: &[u64], ids: &[u64], answers: &mut [u8]) -> u32
+    ensures { λ r. ⌜ Answered (now (table .entry)) (now (ids .entry)) (now (answers .entry)) r (now (answers .exit)) ⌝ }
+{
+    members::members(table, ids, answers)
+}
+
+// A step line read into an area of 32 bytes or more: its four numbers.
+#[no_mangle]
+pub extern "C" fn wg_read_line(line: &[u8], area: &mut [u8]) -> u32
+    ensures { λ r. ⌜ (r ≡ readRefusal (now (line .entry)) (now (area .entry))) × (now (area .exit) ≡ areaAfter (now (line .entry)) (now (area .entry))) ⌝ }
+{
+    lines::read_into(line, area)
+}
+
+// Whether four numbers can be written as a line into so much room.
+#[no_mangle]
+pub extern "C" fn wg_check_line(kind: u64, first: u64, second: u64, id: u64, room: usize) -> u32
+    ensures { λ r. ⌜ r ≡ checkOf kind first second id room ⌝ }
+{
+    lines::check_line(kind, first, second, id, room)
+}
+
+// The line of four numbers at the front of the buffer: how many bytes it has, 0 where it is refused.
+#[no_mangle]
+pub extern "C" fn wg_write_line(
+    kind: u64,
+    first: u64,
+    second: u64,
+    id: u64,
+    buffer: &mut [u8],
+) -> usize
+    ensures { λ r. ⌜ Filled kind first second id (now (buffer .entry)) (now (buffer .exit)) r ⌝ }
+{
+    lines::fill(kind, first, second, id, buffer)
 }

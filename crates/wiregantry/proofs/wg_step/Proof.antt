@@ -40,9 +40,7 @@ use denote.Triple.Statement.{Contract, Triple}
 use denote.Triple.Table.{entered, cited}
 use denote.Triple.Walked.{says, Stays, stay-none, stay-ref, gave-ref, gave-slice, walkOf, AllGo, goes-none, goes-ref, goes-gave-ref, goes-gave-slice, Walks, ends-at, walked, walk-meets}
 use denote.Exit.{yes}
-use Rattle.rules.specs.declared.Answer.{Answer}
 use Rattle.rules.specs.declared.Ledger.{Ledger}
-use Rattle.rules.specs.declared.Named.{Named}
 use Rattle.rules.specs.declared.Named.the-variants.{Is as IsStep, NoStep}
 use Rattle.rules.specs.declared.Parcel.{Parcel}
 use Rattle.rules.specs.declared.Run.{Run}
@@ -67,10 +65,10 @@ use Rattle.rules.proofs.Step.Laws as Q′
 use Rattle.sites.proofs.step.Symbol as step-def
 use Rattle.sites.proofs.step.Symbol.{name as #sites·step}
 use Rattle.sites.proofs.step.Met as step-thm
-use Rattle.wiregantry.proofs.named.step_for as step-for
-use Rattle.wiregantry.proofs.named.step_for.Symbol as step-for-def
-use Rattle.wiregantry.proofs.named.step_for.Symbol.{name as #step-for}
-use Rattle.wiregantry.proofs.named.step_for.Met as step-for-thm
+use Rattle.lines.proofs.step_for as step-for
+use Rattle.lines.proofs.step_for.Symbol as step-for-def
+use Rattle.lines.proofs.step_for.Symbol.{name as #step-for}
+use Rattle.lines.proofs.step_for.Met as step-for-thm
 use Rattle.wiregantry.proofs.wg_step.Key.{name as #wiregantry·wg-step}
 use Rattle.wiregantry.proofs.wg_step as wg-step
 use Rattle.wiregantry.proofs.wg_step.Statement as stated
@@ -239,5 +237,5 @@ wg-step-spec 𝓤 H 𝓜 𝓖 𝓡 =
     entered 𝓤 H (tripleOf 𝓤 H (𝓖 .A) wg-step.signature (wg-step.spec 𝓤 H (𝓖 .A) (𝓜 .mem) (𝓡 .run)))
     (tables 𝓤 H 𝓜 𝓡 code.env .C) (tables 𝓤 H 𝓜 𝓡 code.env .Λ) #wiregantry·wg-step code.function (code.unfolded 𝓤 H 𝓜 𝓡)
     (wg-step-meets 𝓤 H (𝓖 .A) (givenOf 𝓤 H 𝓜 𝓖) (𝓜 .mem) (𝓡 .run) (tablesOf 𝓤 H 𝓜 (tables 𝓤 H 𝓜 𝓡 code.env))
-    (cited 𝓤 H (StepFor 𝓤 H (𝓖 .A) (𝓜 .mem) (𝓡 .run)) 𝓜 𝓡 code.env #step-for step-for-def.routine code.calls-wiregantry·named·step-for (step-for-thm.met 𝓤 H 𝓜 𝓖 𝓡))
+    (cited 𝓤 H (StepFor 𝓤 H (𝓖 .A) (𝓜 .mem) (𝓡 .run)) 𝓜 𝓡 code.env #step-for step-for-def.routine code.calls-lines·step-for (step-for-thm.met 𝓤 H 𝓜 𝓖 𝓡))
     (cited 𝓤 H (OneStep 𝓤 H (𝓖 .A) (𝓜 .mem) (𝓡 .run)) 𝓜 𝓡 code.env #sites·step step-def.routine code.calls-sites·step (step-thm.met 𝓤 H 𝓜 𝓖 𝓡)))
