@@ -161,8 +161,3 @@ none-written t out = same (membersRefusal t 0 (length out))
 pub none-refused : (t : List ℕ) (room : ℕ) → eqb (length t % 2) 1 || ltb 4096 (length t) ≡ false → SoundTable t → membersRefusal t 0 room ≡ 0
 unfolding membersRefusal firstGiven
 none-refused t room h s = rw (h, s, le-ltb room 0 (omega arith))
-
--- two outcomes that both meet the contract are equal
-pub one-outcome : (t ids before : List ℕ) (r : ℕ) (after : List ℕ) (s : ℕ) (other : List ℕ)
-    → Answered t ids before r after → Answered t ids before s other → (r ≡ s) × (after ≡ other)
-one-outcome t ids before r after s other a b = (a .refusal ∙ sym (b .refusal), a .bytes ∙ sym (b .bytes))

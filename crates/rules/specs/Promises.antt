@@ -9,6 +9,7 @@ use lib.ListN.{length}
 use lib.Dec.{eqb}
 use Rattle.rules.specs.declared.Run.{Run}
 use Rattle.rules.specs.declared.Answer.{Answer}
+use Rattle.rules.specs.declared.Reported.{Reported}
 use Rattle.rules.specs.declared.Step.{Step}
 use Rattle.rules.specs.declared.Step.the-variants.{Add, Remove, Query, Send, Merge, Deliver, Again, Lose}
 use Rattle.rules.specs.declared.Line.the-variants.{Numbers}
@@ -21,6 +22,10 @@ use Rattle.rules.specs.Histories.{ran, siteIn, isSend, isAgain, isDelive
 use Rattle.rules.specs.Lines.{textOf, namesStep, numbersOf}
 use Rattle.rules.specs.StepLines.{lineOf, stepOf}
 use Rattle.rules.specs.StepLineLaws.{Fits}
+use Rattle.rules.specs.Calls.{Called}
+use Rattle.rules.specs.Members.{Answered}
+use Rattle.rules.specs.Writing.{Filled}
+use Rattle.rules.specs.Reports.{Told, Printed}
 use Rattle.rules.specs.RunLaws as RunLaws
 use Rattle.rules.specs.Figure4.{lengthIn}
 use Rattle.rules.specs.Figure4 as Figure4
@@ -131,11 +136,31 @@ module _ (run : Run) (s : State) (fresh : freshRefusal run (length (s .words)) (
 pub never-falls : (run : Run) (s : State) (step : Step) (k e : ℕ) → lengthOf (tableAt run (s .words) k) e ≤ lengthOf (tableAt run (after run s step .words) k) e
 never-falls = Absorbing.never-falls
 
--- ---- "Prove that two results which both satisfy it are equal": the contracts of `step` and of `fresh`
+-- ---- "Prove that two results which both satisfy it are equal": where a contract is a record. Every other one is an equation for the result and one for
+-- each thing lent, and then it is `one-outcome`
+pub one-outcome : {A B : Type 0} {result r r′ : A} {left now now′ : B} → (r ≡ result) × (now ≡ left) → (r′ ≡ result) × (now′ ≡ left) → (r ≡ r′) × (now ≡ now′)
+one-outcome = Determined.one-outcome
+
 pub step-determined : (run : Run) (before : State) (step : Step) {r r′ : Answer} {left left′ : State}
     → Stepped run before step r left → Stepped run before step r′ left′ → (r ≡ r′) × (left ≡ left′)
 step-determined = Determined.stepped-determined
 
-pub fresh-determined : (run : Run) (before : State) {r r′ : ℕ} {left left′ : State}
-    → Freshened run before r left → Freshened run before r′ left′ → (r ≡ r′) × (left ≡ left′)
+pub fresh-determined : (run : Run) (before : State) {r r′ : ℕ} {left left′ : State} → Freshened run before r left → Freshened run before r′ left′ → (r ≡ r′) × (left ≡ left′)
 fresh-determined = Determined.freshened-determined
+
+pub call-determined : (run : Run) (before : State) (kind first second id : ℕ) {r r′ v v′ : ℕ} {left left′ : State}
+    → Called run before kind first second id r v left → Called run before kind first second id r′ v′ left′ → (r ≡ r′) × (v ≡ v′) × (left ≡ left′)
+call-determined = Determined.called-determined
+
+pub members-determined : (t ids before : List ℕ) {r r′ : ℕ} {now now′ : List ℕ} → Answered t ids before r now → Answered t ids before r′ now′ → (r ≡ r′) × (now ≡ now′)
+members-determined = Determined.answered-determined
+
+pub writer-determined : (kind first second id : ℕ) (before : List ℕ) {n n′ : ℕ} {now now′ : List ℕ}
+    → Filled kind first second id before now n → Filled kind first second id before now′ n′ → (n ≡ n′) × (now ≡ now′)
+writer-determined = Determined.filled-determined
+
+pub report-determined : (input before : List ℕ) {r r′ : Reported} {now now′ : List ℕ} → Told input before r now → Told input before r′ now′ → (r ≡ r′) × (now ≡ now′)
+report-determined = Determined.told-determined
+
+pub print-determined : (input before : List ℕ) {n n′ : ℕ} {now now′ : List ℕ} → Printed input before n now → Printed input before n′ now′ → (n ≡ n′) × (now ≡ now′)
+print-determined = Determined.printed-determined

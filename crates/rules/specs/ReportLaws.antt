@@ -16,7 +16,6 @@ use Rattle.rules.specs.Runs.{State, firstGiven, refusalOf, valueOf}
 use Rattle.rules.specs.NumberLaws.{below, by-test}
 use Rattle.rules.specs.StepLines.{lineOf, stepOf}
 use Rattle.rules.specs.StepLineLaws.{query-line, read-step}
-use Rattle.rules.specs.Determined.{one-result}
 use Rattle.rules.specs.Reports.{reportRun, reportStart, lineEnd, refusedLine, endLines, acceptedLine, lineBy, saidOf, stateOf, lastPiece, reportFrom, reportOf, inputLimit, reportRoom, reportRefusal, reportFor, Told}
 use Rattle.rules.specs.ReportParts.{refusal-within, refused-within, query-within, end-within}
 
@@ -134,11 +133,3 @@ told-fits input room =
     (λ fits. below room (reportRoom (length input))
     (λ short. rw (told-refused input room 12 (report-short (length input) room fits short)) (omega arith))
     (λ wide. rw (told-taken input room (report-taken (length input) room fits wide)) (omega (arith, report-fits input fits))))
-
--- ---- "two results which both satisfy it are equal": the contract of `report` leaves one answer and one buffer
-same-report : (r r′ : Reported) → r .refusal ≡ r′ .refusal → r .written ≡ r′ .written → r ≡ r′
-same-report r r′ p q = ap (λ (k : ℕ). record { refusal = k; written = r .written }) p ∙ ap (λ (k : ℕ). record { refusal = r′ .refusal; written = k }) q
-
-pub report-determined : (input before : List ℕ) {r r′ : Reported} {now now′ : List ℕ} → Told input before r now → Told input before r′ now′ → (r ≡ r′) × (now ≡ now′)
-report-determined input before {r} {r′} a b =
-    (same-report r r′ (one-result (a .refusal) (b .refusal)) (one-result (a .written) (b .written)), one-result (a .bytes) (b .bytes))
