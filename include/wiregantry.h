@@ -1,0 +1,283 @@
+/* wiregantry.h: what a C or C++ program calls.
+ *
+ * A set of 64-bit episode ids is held at 1 to 16 sites. Each id has a causal length: 0 while it has no entry, odd while it is listed, even
+ * once it is withdrawn. Updates under way between the sites (parcels) wait in slots, and a ledger counts them. All of it lies in memory that
+ * the caller lends; the library allocates nothing and keeps nothing between two calls.
+ *
+ * Every function takes any numbers and any contents, always returns, and answers 0 (accepted) or the number of a refusal. A refused call
+ * has written nothing but the 0 in its `value` or `written`. Refusal numbers never change their meaning.
+ *
+ * What the caller owes, since no proof reaches the calling side:
+ *
+ *  - A pointer and the length beside it name memory of that many elements, aligned for its type, readable, and writable unless the pointer
+ *    is to const. No pointer is NULL, even beside a length of 0: there any aligned address that is not NULL will do, as that of a variable.
+ *    Nothing is read or written through it.
+ *  - The areas of one call do not overlap, and nothing else reads or writes them until it returns. Calls on different areas may run at once.
+ *  - The stack has room for WG_STACK bytes.
+ *
+ * C99 or C++11, and a machine with 64-bit sizes. Link with libwiregantry.a; it needs nothing but memcpy, memmove and memset of a C library.
+ */
+#ifndef WIREGANTRY_H
+#define WIREGANTRY_H
+
+#include <stddef.h>
+#include <stdint.h>
+
+#ifdef __cplusplus
+extern "C" {
+#endif
+
+#define WG_VERSION "0.1.0"
+
+/* The library counts bytes and words in 64 bits; on a machine with other sizes this array has a negative length. */
+typedef char wg_needs_sizes_of_64_bits[sizeof(size_t) == 8 ? 1 : -1];
+
+/* ---- Limits ------------------------------------------------------------------------------------------------------------------------- */
+
+#define WG_SITES_MAX 16u            /* sites of a run: 1 to this */
+#define WG_CAPACITY_MAX 2048u       /* entries of one table: 0 to this */
+#define WG_SLOTS_MAX 1024u          /* slots for parcels: 0 to this */
+#define WG_LENGTH_MAX 4294967295u   /* the largest causal length, and the largest count of the ledger; odd */
+#define WG_MEMBERS_MAX 4096u        /* ids of one call of wg_members */
+#define WG_LINE_MAX 83u             /* bytes of the longest step line, without its line end */
+#define WG_AREA 32u                 /* bytes that wg_read_line fills */
+#define WG_INPUT_MAX 32768u         /* bytes of input that wg_report runs */
+#define WG_REPORT_MAX 720896u       /* no report is longer; the longest has 709,879 bytes (32,768 empty lines) */
+#define WG_STACK 131072u            /* bytes of stack that no call exceeds */
+
+/* The words of a run, and the bytes that the answers on n ids take. */
+#define WG_WORDS(sites, capacity) ((size_t)(sites) * 2u * (size_t)(capacity))
+#define WG_ANSWERS(n) (((size_t)(n) + 7u) / 8u)
+
+/* ---- Kinds of step ------------------------------------------------------------------------------------------------------------------ */
+
+/* A step is four numbers: kind, first, second, id. A number that the kind does not use is 0.
+ *
+ *   kind           first          second        id      accepted, the step has *value
+ *   WG_ADD         site           0             id      the length after: an even one rose by 1, an odd one stayed
+ *   WG_REMOVE      site           0             id      the length after: an odd one rose by 1, an even one stayed and no entry was made
+ *   WG_QUERY       site           0             id      the length
+ *   WG_SEND        sending site   target site   id      the slot where a parcel with the sender's length now waits; sent rose by 1
+ *   WG_MERGE       source site    target site   0       how many ids of the target rose to the source's length
+ *   WG_DELIVER     slot           0             0       the length after at the parcel's site; the slot is free, absorbed rose by 1
+ *   WG_AGAIN       slot           0             0       the slot of a second parcel like the first; copied rose by 1
+ *   WG_LOSE        slot           0             0       0; the slot is free, lost rose by 1
+ */
+#define WG_ADD 1u
+#define WG_REMOVE 2u
+#define WG_QUERY 3u
+#define WG_SEND 4u
+#define WG_MERGE 5u
+#define WG_DELIVER 6u
+#define WG_AGAIN 7u
+#define WG_LOSE 8u
+
+/* ---- Refusals ----------------------------------------------------------------------------------------------------------------------- */
+
+#define WG_ACCEPTED 0u
+#define WG_BAD_SIZES 1u       /* sizes outside the limits, or the run of words is not sites x 2 x capacity long */
+#define WG_UNSOUND 2u         /* a table, a slot or the ledger is not laid out as it must be */
+#define WG_NO_SITE 3u         /* a site number is at or above the number of sites */
+#define WG_SAME_SITE 4u       /* send or merge names one site twice */
+#define WG_NO_PARCEL 5u       /* the slot number is at or above the slot count, or the slot is free */
+#define WG_NOTHING_TO_SEND 6u /* send of an id whose length at the sender is 0 */
+#define WG_LENGTHS_OUT 7u     /* remove at the largest length */
+#define WG_NO_ROOM 8u         /* the gaining table would need more entries than its capacity */
+#define WG_NO_SLOT 9u         /* send or again with no free slot */
+#define WG_COUNT_FULL 10u     /* the counter to be raised is at its largest */
+#define WG_NO_STEP 11u        /* the text is not a step line, or the numbers are not a step */
+#define WG_INPUT_LONG 12u     /* the report's input is longer than WG_INPUT_MAX; it stands in the report's text only */
+#define WG_SHORT_BUFFER 13u   /* a buffer to be written is too short */
+#define WG_MANY_IDS 14u       /* bulk membership asked for more than WG_MEMBERS_MAX ids */
+
+/* A few words on a refusal for people to read; never NULL. */
+static inline const char *wg_refusal_text(uint32_t refusal) {
+    switch (refusal) {
+    case WG_ACCEPTED: return "accepted";
+    case WG_BAD_SIZES: return "sizes outside the limits";
+    case WG_UNSOUND: return "a table, a slot or the ledger is unsound";
+    case WG_NO_SITE: return "no such site";
+    case WG_SAME_SITE: return "one site named twice";
+    case WG_NO_PARCEL: return "no parcel in that slot";
+    case WG_NOTHING_TO_SEND: return "the sender has no entry for the id";
+    case WG_LENGTHS_OUT: return "the lengths of the id have run out";
+    case WG_NO_ROOM: return "no room in the table";
+    case WG_NO_SLOT: return "no free slot";
+    case WG_COUNT_FULL: return "the counter has run out";
+    case WG_NO_STEP: return "not a step";
+    case WG_INPUT_LONG: return "the input is too long";
+    case WG_SHORT_BUFFER: return "the buffer is too short";
+    case WG_MANY_IDS: return "too many ids asked for";
+    default: return "not a refusal of this version";
+    }
+}
+
+/* ---- What is lent ------------------------------------------------------------------------------------------------------------------- */
+
+/* An update under way. A free slot has all three 0; an occupied one has a site of the run and a length of 1 to WG_LENGTH_MAX. */
+typedef struct {
+    uint64_t site, id, length;
+} wg_parcel;
+
+/* Accepted steps send, again, deliver and lose. Sound: each at most WG_LENGTH_MAX, and sent + copied = absorbed + lost + occupied slots. */
+typedef struct {
+    uint64_t sent, copied, absorbed, lost;
+} wg_ledger;
+
+/* A run's words hold its tables one after the other: site k's begins at word k x 2 x capacity. A table is pairs of an id and a length; those
+ * in use come first, their ids strictly rising and their lengths 1 to WG_LENGTH_MAX, and every word after them is 0. */
+
+/* ---- The library -------------------------------------------------------------------------------------------------------------------- */
+
+/* Makes a run fresh: every word, slot and counter 0, whatever stood there.
+ * Refuses with 1 exactly when sites is not 1 to 16, capacity is above 2,048, n_slots is above 1,024, or n_words is not
+ * sites x 2 x capacity. */
+uint32_t wg_fresh(uint64_t *words, size_t n_words, wg_parcel *slots, size_t n_slots, wg_ledger *ledger,
+                  uint64_t sites, uint64_t capacity);
+
+/* One step of a run; the four numbers are those above. *value is what the step returns, and 0 on a refusal.
+ *
+ * First 11, exactly when kind is not 1 to 8 or a number that the kind does not use is not 0. Then, for every kind, 1 as in wg_fresh, and 2
+ * exactly when a table, a slot or the ledger is not sound. Then the first that applies, in this order:
+ *
+ *   add       3 no such site, 8 the id has no entry and the table is full
+ *   remove    3 no such site, 7 the length is WG_LENGTH_MAX
+ *   query     3 no such site
+ *   send      3 no such site (either), 4 both the same, 6 the length at the sender is 0, 9 no free slot, 10 sent is WG_LENGTH_MAX
+ *   merge     3 no such site (either), 4 both the same, 8 the ids of both tables together are more than the capacity
+ *   deliver   5 no such slot or a free one, 8 the id has no entry at its site and the table is full, 10 absorbed is WG_LENGTH_MAX
+ *   again     5 no such slot or a free one, 9 no free slot, 10 copied is WG_LENGTH_MAX
+ *   lose      5 no such slot or a free one, 10 lost is WG_LENGTH_MAX
+ *
+ * A new parcel takes the free slot with the lowest number. A delivery that is refused leaves its parcel waiting. */
+uint32_t wg_step(uint64_t *words, size_t n_words, wg_parcel *slots, size_t n_slots, wg_ledger *ledger,
+                 uint64_t sites, uint64_t capacity,
+                 uint64_t kind, uint64_t first, uint64_t second, uint64_t id, uint64_t *value);
+
+/* Which of n_ids ids one table lists. Answer i goes into bit i mod 8 of answers[i / 8], lowest bit first; spare bits of the last byte are 0,
+ * and bytes behind it keep what they had. The ids may repeat and need no order. No ids: accepted, nothing written.
+ * Refuses in this order: 1 exactly when n_words is odd or above 4,096; 2 the table is not sound; 14 n_ids is above 4,096;
+ * 13 n_answers is below WG_ANSWERS(n_ids). */
+uint32_t wg_members(const uint64_t *table, size_t n_words, const uint64_t *ids, size_t n_ids,
+                    uint8_t *answers, size_t n_answers);
+
+/* Reads a step line (without its line end) into the first 32 bytes of area: kind, first, second, id, each 8 bytes, lowest byte first.
+ * Bytes behind them keep what they had. wg_number reads them.
+ *
+ *   step=add node=N id=I         likewise remove and query
+ *   step=send from=N to=N id=I
+ *   step=merge from=N to=N
+ *   step=deliver slot=S          likewise again and lose
+ *
+ * Numbers are decimal, 0 to 18446744073709551615, with no sign and no leading zero; one space between the pairs and no other byte. Whether
+ * a run has such a site or slot is not judged here.
+ * Refuses in this order: 13 exactly when n_area is below 32; 11 the n bytes are not such a line (a byte 10 anywhere included). */
+uint32_t wg_read_line(const uint8_t *line, size_t n, uint8_t *area, size_t n_area);
+
+/* Whether wg_write_line would write this step into room bytes: 11 exactly when kind is not 1 to 8 or an unused number is not 0, then 13 when
+ * the line is longer than room, else 0. */
+uint32_t wg_check_line(uint64_t kind, uint64_t first, uint64_t second, uint64_t id, size_t room);
+
+/* Writes the step's line to the front of buffer and returns how many bytes it has; bytes behind it keep what they had. Returns 0, with nothing
+ * written, exactly when wg_check_line refuses. WG_LINE_MAX bytes are enough for every step. No line is empty. */
+size_t wg_write_line(uint64_t kind, uint64_t first, uint64_t second, uint64_t id, uint8_t *buffer, size_t room);
+
+/* Runs a text of step lines, each ended by byte 10, from a fresh state with 3 sites, capacity 8 and 8 slots, and writes the report to the
+ * front of out: a line for each refused step (`line=L refused=R`) and each accepted query
+ * (`line=L node=N id=I length=K present=P`), then sent, copied, absorbed, lost and waiting, then `node=N shown=S` for each site, S the
+ * number of entries in its table. *written is how many bytes that is; bytes behind it keep what they had.
+ *
+ * A line that is no step line, an empty one, and a last piece without its byte 10 stand in the report as refused with 11.
+ * An input over 32,768 bytes is accepted too: its whole report is the line `refused=12`.
+ * Refuses with 13 exactly when room is less than the report's own length; *written is then 0. WG_REPORT_MAX bytes are always enough. */
+uint32_t wg_report(const uint8_t *input, size_t n, uint8_t *out, size_t room, size_t *written);
+
+/* ---- In short, over the calls above ------------------------------------------------------------------------------------------------- */
+
+/* The lent areas of one run with their sizes, so that a step is one short call. A run is the same at all its calls. */
+typedef struct {
+    uint64_t *words;
+    size_t n_words;
+    wg_parcel *slots;
+    size_t n_slots;
+    wg_ledger *ledger;
+    uint64_t sites, capacity;
+} wg_run;
+
+/* wg_fresh on a run. */
+static inline uint32_t wg_start(const wg_run *run) {
+    return wg_fresh(run->words, run->n_words, run->slots, run->n_slots, run->ledger, run->sites, run->capacity);
+}
+
+/* wg_step on a run. */
+static inline uint32_t wg_do(const wg_run *run, uint64_t kind, uint64_t first, uint64_t second, uint64_t id, uint64_t *value) {
+    return wg_step(run->words, run->n_words, run->slots, run->n_slots, run->ledger, run->sites, run->capacity,
+                   kind, first, second, id, value);
+}
+
+/* Publishes id at a site. Refuses with 1, 2, 3, 8. */
+static inline uint32_t wg_add(const wg_run *run, uint64_t site, uint64_t id, uint64_t *length) {
+    return wg_do(run, WG_ADD, site, 0, id, length);
+}
+
+/* Withdraws id at a site. Refuses with 1, 2, 3, 7. */
+static inline uint32_t wg_remove(const wg_run *run, uint64_t site, uint64_t id, uint64_t *length) {
+    return wg_do(run, WG_REMOVE, site, 0, id, length);
+}
+
+/* The length of id at a site. Refuses with 1, 2, 3. */
+static inline uint32_t wg_query(const wg_run *run, uint64_t site, uint64_t id, uint64_t *length) {
+    return wg_do(run, WG_QUERY, site, 0, id, length);
+}
+
+/* Puts a parcel with the sender's length for id under way. Refuses with 1, 2, 3, 4, 6, 9, 10. */
+static inline uint32_t wg_send(const wg_run *run, uint64_t from, uint64_t to, uint64_t id, uint64_t *slot) {
+    return wg_do(run, WG_SEND, from, to, id, slot);
+}
+
+/* Merges the whole table of one site into another's; the first is unchanged. Refuses with 1, 2, 3, 4, 8. */
+static inline uint32_t wg_merge(const wg_run *run, uint64_t from, uint64_t to, uint64_t *rose) {
+    return wg_do(run, WG_MERGE, from, to, 0, rose);
+}
+
+/* Delivers the parcel in a slot at its site. Refuses with 1, 2, 5, 8, 10. */
+static inline uint32_t wg_deliver(const wg_run *run, uint64_t slot, uint64_t *length) {
+    return wg_do(run, WG_DELIVER, slot, 0, 0, length);
+}
+
+/* Doubles the parcel in a slot. Refuses with 1, 2, 5, 9, 10. */
+static inline uint32_t wg_again(const wg_run *run, uint64_t slot, uint64_t *new_slot) {
+    return wg_do(run, WG_AGAIN, slot, 0, 0, new_slot);
+}
+
+/* Gives the parcel in a slot up for lost. Refuses with 1, 2, 5, 10. */
+static inline uint32_t wg_lose(const wg_run *run, uint64_t slot) {
+    uint64_t nothing;
+    return wg_do(run, WG_LOSE, slot, 0, 0, &nothing);
+}
+
+/* Whether an id with this length is listed: 1 or 0. */
+static inline int wg_listed(uint64_t length) { return (int)(length & 1u); }
+
+/* Number i (0 kind, 1 first, 2 second, 3 id) of what wg_read_line left in area, on a machine of either byte order. */
+static inline uint64_t wg_number(const uint8_t *area, unsigned i) {
+    uint64_t n = 0;
+    unsigned b;
+    for (b = 8; b-- > 0;) n = n << 8 | area[8u * i + b];
+    return n;
+}
+
+/* Reads a step line and takes the step. Refuses with 11 if it is no step line, then as the step; *value is 0 on a refusal. */
+static inline uint32_t wg_do_line(const wg_run *run, const uint8_t *line, size_t n, uint64_t *value) {
+    uint8_t area[WG_AREA];
+    uint32_t refusal = wg_read_line(line, n, area, sizeof area);
+    *value = 0;
+    if (refusal != WG_ACCEPTED) return refusal;
+    return wg_do(run, wg_number(area, 0), wg_number(area, 1), wg_number(area, 2), wg_number(area, 3), value);
+}
+
+#ifdef __cplusplus
+}
+#endif
+
+#endif

@@ -1,0 +1,412 @@
+/* model.c: the rules, the plain way. Tables are unpacked into lists, changed there and packed again; text goes through snprintf. Numbers of
+ * refusals and limits are written out, not taken from the header, so that a slip in the header is a difference too. Not reentrant. */
+#include "model.h"
+
+#include <inttypes.h>
+#include <stdbool.h>
+#include <stdio.h>
+#include <string.h>
+
+#define M UINT64_C(4294967295)
+
+/* ---- one set: ids with their lengths ---- */
+
+struct set {
+    size_t count;
+    uint64_t id[4096], length[4096]; /* two full tables, so that a merge can be tried before its room is judged */
+};
+
+static void put(struct set *s, uint64_t id, uint64_t length) {
+    size_t at = 0, k;
+    while (at < s->count && s->id[at] < id) at++;
+    if (at < s->count && s->id[at] == id) {
+        s->length[at] = length;
+        return;
+    }
+    for (k = s->count; k > at; k--) {
+        s->id[k] = s->id[k - 1];
+        s->length[k] = s->length[k - 1];
+    }
+    s->id[at] = id;
+    s->length[at] = length;
+    s->count++;
+}
+
+static uint64_t length_of(const struct set *s, uint64_t id) {
+    size_t k;
+    for (k = 0; k < s->count; k++)
+        if (s->id[k] == id) return s->length[k];
+    return 0;
+}
+
+static bool odd(uint64_t n) { return n % 2 == 1; }
+
+/* ---- a table in words ---- */
+
+/* "Entries in use come first, ids strictly rising, lengths 1 to M; every word after them is 0." */
+static bool unpack(const uint64_t *words, uint64_t capacity, struct set *s) {
+    uint64_t k;
+    bool ended = false;
+    s->count = 0;
+    for (k = 0; k < capacity; k++) {
+        uint64_t id = words[2 * k], length = words[2 * k + 1];
+        if (length == 0) ended = true;
+        if (ended) {
+            if (id != 0 || length != 0) return false;
+            continue;
+        }
+        if (length > M) return false;
+        if (s->count > 0 && s->id[s->count - 1] >= id) return false;
+        s->id[s->count] = id;
+        s->length[s->count] = length;
+        s->count++;
+    }
+    return true;
+}
+
+static void pack(const struct set *s, uint64_t *words, uint64_t capacity) {
+    uint64_t k;
+    for (k = 0; k < capacity; k++) {
+        words[2 * k] = k < s->count ? s->id[k] : 0;
+        words[2 * k + 1] = k < s->count ? s->length[k] : 0;
+    }
+}
+
+/* ---- slots and ledger ---- */
+
+static bool free_slot(const wg_parcel *p) { return p->site == 0 && p->id == 0 && p->length == 0; }
+
+static bool sound_slot(const wg_parcel *p, uint64_t sites) {
+    return free_slot(p) || (p->length >= 1 && p->length <= M && p->site < sites);
+}
+
+static uint64_t waiting(const wg_parcel *slots, size_t n) {
+    uint64_t count = 0;
+    size_t k;
+    for (k = 0; k < n; k++) count += !free_slot(&slots[k]);
+    return count;
+}
+
+static bool sound_ledger(const wg_ledger *l, uint64_t waits) {
+    if (l->sent > M || l->copied > M || l->absorbed > M || l->lost > M) return false;
+    return l->sent + l->copied == l->absorbed + l->lost + waits;
+}
+
+static size_t lowest_free(const wg_parcel *slots, size_t n) {
+    size_t k;
+    for (k = 0; k < n; k++)
+        if (free_slot(&slots[k])) return k;
+    return n;
+}
+
+/* ---- a run ---- */
+
+static bool sizes(size_t n_words, size_t n_slots, uint64_t sites, uint64_t capacity) {
+    if (sites < 1 || sites > 16) return false;
+    if (capacity > 2048) return false;
+    if (n_slots > 1024) return false;
+    return n_words == sites * 2 * capacity;
+}
+
+uint32_t model_fresh(uint64_t *words, size_t n_words, wg_parcel *slots, size_t n_slots, wg_ledger *ledger,
+                     uint64_t sites, uint64_t capacity) {
+    size_t k;
+    if (!sizes(n_words, n_slots, sites, capacity)) return 1;
+    for (k = 0; k < n_words; k++) words[k] = 0;
+    for (k = 0; k < n_slots; k++) slots[k].site = slots[k].id = slots[k].length = 0;
+    ledger->sent = ledger->copied = ledger->absorbed = ledger->lost = 0;
+    return 0;
+}
+
+/* "A kind outside 1 to 8, or an unused number that isn't 0" */
+static bool is_step(uint64_t kind, uint64_t second, uint64_t id) {
+    switch (kind) {
+    case 1: case 2: case 3: return second == 0;
+    case 4: return true;
+    case 5: return id == 0;
+    case 6: case 7: case 8: return second == 0 && id == 0;
+    default: return false;
+    }
+}
+
+static struct set tables[16];
+static struct set joined;
+
+uint32_t model_step(uint64_t *words, size_t n_words, wg_parcel *slots, size_t n_slots, wg_ledger *ledger,
+                    uint64_t sites, uint64_t capacity,
+                    uint64_t kind, uint64_t first, uint64_t second, uint64_t id, uint64_t *value) {
+    uint64_t k, now, site, rose = 0;
+    size_t place, slot;
+    wg_parcel parcel;
+
+    *value = 0;
+    if (!is_step(kind, second, id)) return 11;
+    if (!sizes(n_words, n_slots, sites, capacity)) return 1;
+    for (k = 0; k < sites; k++)
+        if (!unpack(words + k * 2 * capacity, capacity, &tables[k])) return 2;
+    for (k = 0; k < n_slots; k++)
+        if (!sound_slot(&slots[k], sites)) return 2;
+    if (!sound_ledger(ledger, waiting(slots, n_slots))) return 2;
+
+    if (kind <= 5 && first >= sites) return 3;
+    if ((kind == 4 || kind == 5) && second >= sites) return 3;
+    if ((kind == 4 || kind == 5) && first == second) return 4;
+    if (kind >= 6 && (first >= n_slots || free_slot(&slots[first]))) return 5;
+
+    place = lowest_free(slots, n_slots);
+    slot = (size_t)first;
+    switch (kind) {
+    case 1:
+        now = length_of(&tables[first], id);
+        if (odd(now)) {
+            *value = now;
+            return 0;
+        }
+        if (now == 0 && tables[first].count == capacity) return 8;
+        put(&tables[first], id, now + 1);
+        pack(&tables[first], words + first * 2 * capacity, capacity);
+        *value = now + 1;
+        return 0;
+    case 2:
+        now = length_of(&tables[first], id);
+        if (now == M) return 7;
+        if (odd(now)) {
+            now = now + 1;
+            put(&tables[first], id, now);
+            pack(&tables[first], words + first * 2 * capacity, capacity);
+        }
+        *value = now;
+        return 0;
+    case 3:
+        *value = length_of(&tables[first], id);
+        return 0;
+    case 4:
+        now = length_of(&tables[first], id);
+        if (now == 0) return 6;
+        if (place == n_slots) return 9;
+        if (ledger->sent == M) return 10;
+        slots[place].site = second;
+        slots[place].id = id;
+        slots[place].length = now;
+        ledger->sent++;
+        *value = place;
+        return 0;
+    case 5:
+        joined = tables[second];
+        for (k = 0; k < tables[first].count; k++) {
+            uint64_t theirs = tables[first].length[k];
+            if (theirs > length_of(&tables[second], tables[first].id[k])) {
+                put(&joined, tables[first].id[k], theirs);
+                rose++;
+            }
+        }
+        if (joined.count > capacity) return 8;
+        pack(&joined, words + second * 2 * capacity, capacity);
+        *value = rose;
+        return 0;
+    case 6:
+        parcel = slots[slot];
+        site = parcel.site;
+        now = length_of(&tables[site], parcel.id);
+        if (now == 0 && tables[site].count == capacity) return 8;
+        if (ledger->absorbed == M) return 10;
+        if (parcel.length > now) {
+            now = parcel.length;
+            put(&tables[site], parcel.id, now);
+            pack(&tables[site], words + site * 2 * capacity, capacity);
+        }
+        slots[slot].site = slots[slot].id = slots[slot].length = 0;
+        ledger->absorbed++;
+        *value = now;
+        return 0;
+    case 7:
+        if (place == n_slots) return 9;
+        if (ledger->copied == M) return 10;
+        slots[place] = slots[slot];
+        ledger->copied++;
+        *value = place;
+        return 0;
+    default:
+        if (ledger->lost == M) return 10;
+        slots[slot].site = slots[slot].id = slots[slot].length = 0;
+        ledger->lost++;
+        return 0;
+    }
+}
+
+/* ---- bulk membership ---- */
+
+uint32_t model_members(const uint64_t *table, size_t n_words, const uint64_t *ids, size_t n_ids,
+                       uint8_t *answers, size_t n_answers) {
+    size_t byte, bit;
+    if (n_words % 2 == 1 || n_words > 4096) return 1;
+    if (!unpack(table, n_words / 2, &joined)) return 2;
+    if (n_ids > 4096) return 14;
+    if (n_answers * 8 < n_ids) return 13;
+    for (byte = 0; byte * 8 < n_ids; byte++) {
+        unsigned sum = 0;
+        for (bit = 0; bit < 8 && byte * 8 + bit < n_ids; bit++)
+            if (odd(length_of(&joined, ids[byte * 8 + bit]))) sum += 1u << bit;
+        answers[byte] = (uint8_t)sum;
+    }
+    return 0;
+}
+
+/* ---- step lines ---- */
+
+/* What each kind's line looks like: # stands for a number, and the digits after it name which of first, second and id it is. */
+static const char *const forms[] = {
+    "",
+    "step=add node=#1 id=#3",
+    "step=remove node=#1 id=#3",
+    "step=query node=#1 id=#3",
+    "step=send from=#1 to=#2 id=#3",
+    "step=merge from=#1 to=#2",
+    "step=deliver slot=#1",
+    "step=again slot=#1",
+    "step=lose slot=#1",
+};
+
+/* The number that begins at line[*at], moved past; false where there is none or it is too large. */
+static bool take_number(const uint8_t *line, size_t n, size_t *at, uint64_t *number) {
+    char digits[21], again[24];
+    size_t k = 0;
+    while (*at + k < n && line[*at + k] >= '0' && line[*at + k] <= '9') {
+        if (k == 20) return false;
+        digits[k] = (char)line[*at + k];
+        k++;
+    }
+    digits[k] = 0;
+    if (k == 0) return false;
+    /* the last digits of a number past 64 bits, or a leading zero, do not come back as they were */
+    *number = 0;
+    for (k = 0; digits[k]; k++) *number = *number * 10 + (uint64_t)(digits[k] - '0');
+    snprintf(again, sizeof again, "%" PRIu64, *number);
+    if (strcmp(again, digits) != 0) return false;
+    *at += k;
+    return true;
+}
+
+static bool fits(const char *form, const uint8_t *line, size_t n, uint64_t numbers[4]) {
+    size_t at = 0;
+    while (*form) {
+        if (*form == '#') {
+            if (!take_number(line, n, &at, &numbers[form[1] - '0'])) return false;
+            form += 2;
+        } else {
+            if (at == n || line[at] != (uint8_t)*form) return false;
+            at++;
+            form++;
+        }
+    }
+    return at == n;
+}
+
+static bool read_numbers(const uint8_t *line, size_t n, uint64_t numbers[4]) {
+    unsigned kind;
+    for (kind = 1; kind <= 8; kind++) {
+        numbers[0] = kind;
+        numbers[1] = numbers[2] = numbers[3] = 0;
+        if (fits(forms[kind], line, n, numbers)) return true;
+    }
+    return false;
+}
+
+uint32_t model_read_line(const uint8_t *line, size_t n, uint8_t *area, size_t n_area) {
+    uint64_t numbers[4];
+    unsigned k, b;
+    if (n_area < 32) return 13;
+    if (!read_numbers(line, n, numbers)) return 11;
+    for (k = 0; k < 4; k++)
+        for (b = 0; b < 8; b++) area[8 * k + b] = (uint8_t)(numbers[k] >> (8 * b) & 255);
+    return 0;
+}
+
+/* The step's line, with a 0 behind it; 0 where the numbers are no step. */
+static size_t line_of(uint64_t kind, uint64_t first, uint64_t second, uint64_t id, char text[128]) {
+    const uint64_t numbers[4] = {kind, first, second, id};
+    const char *form;
+    size_t n = 0;
+    if (!is_step(kind, second, id)) return 0;
+    for (form = forms[kind]; *form;) {
+        if (*form == '#') {
+            n += (size_t)snprintf(text + n, 128 - n, "%" PRIu64, numbers[form[1] - '0']);
+            form += 2;
+        } else {
+            text[n++] = *form++;
+        }
+    }
+    text[n] = 0;
+    return n;
+}
+
+uint32_t model_check_line(uint64_t kind, uint64_t first, uint64_t second, uint64_t id, size_t room) {
+    char text[128];
+    size_t n = line_of(kind, first, second, id, text);
+    if (n == 0) return 11;
+    return n > room ? 13 : 0;
+}
+
+size_t model_write_line(uint64_t kind, uint64_t first, uint64_t second, uint64_t id, uint8_t *buffer, size_t room) {
+    char text[128];
+    size_t n = line_of(kind, first, second, id, text);
+    if (n == 0 || n > room) return 0;
+    memcpy(buffer, text, n);
+    return n;
+}
+
+/* ---- the report ---- */
+
+static char report[1 << 20];
+static size_t said;
+
+#define SAY(...) (said += (size_t)snprintf(report + said, sizeof report - said, __VA_ARGS__))
+
+static struct {
+    uint64_t words[3 * 2 * 8];
+    wg_parcel slots[8];
+    wg_ledger ledger;
+} state;
+
+static void run_line(size_t number, const uint8_t *line, size_t n, bool ended) {
+    uint64_t numbers[4], value = 0;
+    uint32_t refusal = 11;
+    if (ended && read_numbers(line, n, numbers))
+        refusal = model_step(state.words, 48, state.slots, 8, &state.ledger, 3, 8,
+                             numbers[0], numbers[1], numbers[2], numbers[3], &value);
+    if (refusal != 0)
+        SAY("line=%zu refused=%" PRIu32 "\n", number, refusal);
+    else if (numbers[0] == 3)
+        SAY("line=%zu node=%" PRIu64 " id=%" PRIu64 " length=%" PRIu64 " present=%d\n",
+            number, numbers[1], numbers[3], value, odd(value) ? 1 : 0);
+}
+
+static void run_text(const uint8_t *input, size_t n) {
+    size_t from = 0, number = 1, k;
+    model_fresh(state.words, 48, state.slots, 8, &state.ledger, 3, 8);
+    for (k = 0; k < n; k++) {
+        if (input[k] != 10) continue;
+        run_line(number++, input + from, k - from, true);
+        from = k + 1;
+    }
+    if (from < n) run_line(number, input + from, n - from, false);
+    SAY("sent=%" PRIu64 "\ncopied=%" PRIu64 "\nabsorbed=%" PRIu64 "\nlost=%" PRIu64 "\nwaiting=%" PRIu64 "\n",
+        state.ledger.sent, state.ledger.copied, state.ledger.absorbed, state.ledger.lost, waiting(state.slots, 8));
+    for (k = 0; k < 3; k++) {
+        unpack(state.words + k * 16, 8, &joined);
+        SAY("node=%zu shown=%zu\n", k, joined.count);
+    }
+}
+
+uint32_t model_report(const uint8_t *input, size_t n, uint8_t *out, size_t room, size_t *written) {
+    *written = 0;
+    said = 0;
+    if (n > 32768)
+        SAY("refused=12\n");
+    else
+        run_text(input, n);
+    if (said > room) return 13;
+    memcpy(out, report, said);
+    *written = said;
+    return 0;
+}

@@ -1,0 +1,20 @@
+/* model.h: everything that C can call, a second time. model.c is written from the rules in words, with the plainest means, so that it and the
+ * library have nothing in common but the document that both follow. The parameters are those of include/wiregantry.h. */
+#ifndef MODEL_H
+#define MODEL_H
+
+#include "wiregantry.h"
+
+uint32_t model_fresh(uint64_t *words, size_t n_words, wg_parcel *slots, size_t n_slots, wg_ledger *ledger,
+                     uint64_t sites, uint64_t capacity);
+uint32_t model_step(uint64_t *words, size_t n_words, wg_parcel *slots, size_t n_slots, wg_ledger *ledger,
+                    uint64_t sites, uint64_t capacity,
+                    uint64_t kind, uint64_t first, uint64_t second, uint64_t id, uint64_t *value);
+uint32_t model_members(const uint64_t *table, size_t n_words, const uint64_t *ids, size_t n_ids,
+                       uint8_t *answers, size_t n_answers);
+uint32_t model_read_line(const uint8_t *line, size_t n, uint8_t *area, size_t n_area);
+uint32_t model_check_line(uint64_t kind, uint64_t first, uint64_t second, uint64_t id, size_t room);
+size_t model_write_line(uint64_t kind, uint64_t first, uint64_t second, uint64_t id, uint8_t *buffer, size_t room);
+uint32_t model_report(const uint8_t *input, size_t n, uint8_t *out, size_t room, size_t *written);
+
+#endif

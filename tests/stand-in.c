@@ -1,0 +1,10 @@
+/* stand-in.c: the model under the library's names. It serves to try the tests themselves: against it they find no difference, and against a
+ * copy of the model with a planted fault they must find one (planted-faults). It proves nothing about the library. */
+#define model_fresh wg_fresh
+#define model_step wg_step
+#define model_members wg_members
+#define model_read_line wg_read_line
+#define model_check_line wg_check_line
+#define model_write_line wg_write_line
+#define model_report wg_report
+#include <model.c>
