@@ -1,0 +1,185 @@
+/* marked.c: the twelve marked examples P1 to P12 and the sample report, with the very numbers and texts of the rules, through the header's
+ * named calls. It compiles as C and as C++. */
+#include <inttypes.h>
+#include <stdio.h>
+#include <string.h>
+
+#include "wiregantry.h"
+
+#define M UINT64_C(4294967295)
+
+static int wrong;
+
+static void same(const char *what, uint64_t got, uint64_t want) {
+    if (got == want) return;
+    printf("marked: %s: %" PRIu64 ", not %" PRIu64 "\n", what, got, want);
+    wrong = 1;
+}
+
+/* Two sites with room for 4 entries each, of which a run takes as many as its capacity says. */
+static uint64_t words[2 * 2 * 4];
+static wg_parcel slots[2];
+static wg_ledger ledger;
+
+static wg_run run_of(uint64_t capacity) {
+    wg_run run;
+    run.words = words;
+    run.n_words = WG_WORDS(2, capacity);
+    run.slots = slots;
+    run.n_slots = 2;
+    run.ledger = &ledger;
+    run.sites = 2;
+    run.capacity = capacity;
+    same("fresh", wg_start(&run), 0);
+    return run;
+}
+
+static void lay(uint64_t *table, const uint64_t *pairs, size_t n) { memcpy(table, pairs, n * 16); }
+
+static void same_table(const char *what, const uint64_t *table, const uint64_t *pairs, size_t n) {
+    if (memcmp(table, pairs, n * 16) == 0) return;
+    printf("marked: %s: the table is another\n", what);
+    wrong = 1;
+}
+
+static void one_id(void) {
+    static const uint64_t empty[8] = {0}, listed[8] = {7, 1}, withdrawn[8] = {7, 2};
+    wg_run run = run_of(4);
+    uint64_t length;
+    same("P1", wg_query(&run, 0, 7, &length), 0);
+    same("P1", length, 0);
+    same("P5", wg_remove(&run, 0, 7, &length), 0);
+    same("P5", length, 0);
+    same_table("P5", words, empty, 4);
+    same("P2", wg_add(&run, 0, 7, &length), 0);
+    same("P2", length, 1);
+    same("P3", wg_add(&run, 0, 7, &length), 0);
+    same("P3", length, 1);
+    same_table("P3", words, listed, 4);
+    same("P4", wg_remove(&run, 0, 7, &length), 0);
+    same("P4", length, 2);
+    same_table("P4", words, withdrawn, 4);
+}
+
+static void largest_lengths(void) {
+    static const uint64_t at_m[2] = {7, M}, below_m[2] = {7, M - 1};
+    wg_run run = run_of(4);
+    uint64_t length;
+    lay(words, at_m, 1);
+    same("P8 remove", wg_remove(&run, 0, 7, &length), 7);
+    same("P8 remove", length, 0);
+    same("P8 add", wg_add(&run, 0, 7, &length), 0);
+    same("P8 add", length, M);
+    lay(words, below_m, 1);
+    same("P9", wg_add(&run, 0, 7, &length), 0);
+    same("P9", length, M);
+}
+
+static void merges(void) {
+    static const uint64_t three[2] = {7, 3}, two[2] = {7, 2};
+    static const uint64_t a[4] = {7, 2, 9, 1}, b[4] = {7, 1, 8, 3}, both[6] = {7, 2, 8, 3, 9, 1};
+    static const uint64_t ask[3] = {7, 8, 9};
+    wg_run run = run_of(3);
+    uint64_t rose;
+    uint8_t answers[2] = {255, 255};
+    lay(words, three, 1);
+    lay(words + 6, two, 1);
+    same("P6", wg_merge(&run, 0, 1, &rose), 0);
+    same_table("P6", words + 6, three, 1);
+    run = run_of(3);
+    lay(words, a, 2);
+    lay(words + 6, b, 2);
+    same("P11", wg_merge(&run, 1, 0, &rose), 0);
+    same("P11", rose, 1);
+    same_table("P7", words, both, 3);
+    same("P12", wg_members(words, 6, ask, 3, answers, sizeof answers), 0);
+    same("P12", answers[0], 6);
+    same("P12 behind", answers[1], 255);
+    run = run_of(2);
+    lay(words, a, 2);
+    lay(words + 4, b, 2);
+    same("P11 at 2", wg_merge(&run, 1, 0, &rose), 8);
+    same("P11 at 2", rose, 0);
+    same_table("P11 at 2", words, a, 2);
+}
+
+static void no_room(void) {
+    static const uint64_t full[4] = {7, 1, 8, 1}, other[4] = {7, 3, 9, 1};
+    wg_run run = run_of(2);
+    uint64_t slot, length;
+    lay(words, full, 2);
+    lay(words + 4, other, 2);
+    same("P10 send", wg_send(&run, 1, 0, 9, &slot), 0);
+    same("P10 deliver 9", wg_deliver(&run, slot, &length), 8);
+    same("P10 still waiting", slots[slot].id, 9);
+    same("P10 send", wg_send(&run, 1, 0, 7, &slot), 0);
+    same("P10 deliver 7", wg_deliver(&run, slot, &length), 0);
+    same("P10 deliver 7", length, 3);
+    same("again", wg_again(&run, 0, &slot), 0);
+    same("lose", wg_lose(&run, slot), 0);
+    same("sent", ledger.sent, 2);
+    same("copied", ledger.copied, 1);
+    same("absorbed", ledger.absorbed, 1);
+    same("lost", ledger.lost, 1);
+}
+
+static const char sample[] =
+    "step=add node=0 id=7\nstep=add node=1 id=7\nstep=send from=1 to=2 id=7\nstep=deliver slot=0\nstep=remove node=0 id=7\n"
+    "step=remove node=1 id=7\nstep=remove node=2 id=7\nstep=add node=1 id=7\nstep=send from=0 to=1 id=7\nstep=again slot=0\n"
+    "step=deliver slot=1\nstep=lose slot=0\nstep=deliver slot=0\nstep=merge from=1 to=2\nstep=remove node=2 id=7\n"
+    "step=query node=1 id=7\nstep=query node=2 id=7\n";
+static const char sample_report[] =
+    "line=13 refused=5\nline=16 node=1 id=7 length=3 present=1\nline=17 node=2 id=7 length=4 present=0\n"
+    "sent=2\ncopied=1\nabsorbed=2\nlost=1\nwaiting=0\nnode=0 shown=1\nnode=1 shown=1\nnode=2 shown=1\n";
+
+static uint8_t input[WG_INPUT_MAX + 1], out[WG_REPORT_MAX];
+
+static void same_report(const char *what, size_t n, const char *want) {
+    size_t written;
+    same(what, wg_report(input, n, out, sizeof out, &written), 0);
+    if (written == strlen(want) && memcmp(out, want, written) == 0) return;
+    printf("marked: %s: the report is another\n%.*s", what, (int)written, (const char *)out);
+    wrong = 1;
+}
+
+static void reports(void) {
+    size_t written = 1;
+    memcpy(input, sample, sizeof sample - 1);
+    same_report("the sample report", sizeof sample - 1, sample_report);
+    same("a byte short", wg_report(input, sizeof sample - 1, out, sizeof sample_report - 2, &written), 13);
+    same("a byte short", written, 0);
+    memset(input, 10, sizeof input);
+    same_report("32,769 bytes", WG_INPUT_MAX + 1, "refused=12\n");
+    same("32,768 empty lines", wg_report(input, WG_INPUT_MAX, out, sizeof out, &written), 0);
+    same("32,768 empty lines", written, 709879);
+}
+
+static void lines(void) {
+    static const char text[] = "step=send from=18446744073709551615 to=18446744073709551615 id=18446744073709551615";
+    uint8_t area[WG_AREA], back[WG_LINE_MAX];
+    wg_run run = run_of(2);
+    uint64_t value;
+    same("the longest line", sizeof text - 1, WG_LINE_MAX);
+    same("the longest line", wg_read_line((const uint8_t *)text, WG_LINE_MAX, area, sizeof area), 0);
+    same("its kind", wg_number(area, 0), WG_SEND);
+    same("its second", wg_number(area, 2), UINT64_MAX);
+    same("written back", wg_write_line(WG_SEND, UINT64_MAX, UINT64_MAX, UINT64_MAX, back, sizeof back), WG_LINE_MAX);
+    same("written back", (uint64_t)memcmp(back, text, WG_LINE_MAX), 0);
+    same("a line as a step", wg_do_line(&run, (const uint8_t *)"step=add node=1 id=5", 20, &value), 0);
+    same("a line as a step", value, 1);
+    same("no line as a step", wg_do_line(&run, (const uint8_t *)"step=add node=1 id=05", 21, &value), 11);
+}
+
+int main(void) {
+    uint32_t k;
+    one_id();
+    largest_lengths();
+    merges();
+    no_room();
+    reports();
+    lines();
+    for (k = 0; k < 16; k++)
+        if (wg_refusal_text(k)[0] == 0) wrong = 1;
+    if (!wrong) printf("marked: P1 to P12, the sample report, the longest line and the longest report are as the rules say\n");
+    return wrong;
+}
