@@ -144,7 +144,7 @@ const char *const damage_names[DAMAGES] = {
     "free slot with both",
     "parcel length above M",
     "parcel for no site",
-    "counter above M, sum right",
+    "one counter above M, sum right",
     "counters wrap to a right sum",
     "counter one too high",
     "counter one too low",
@@ -247,10 +247,18 @@ static int damage_ledger(rng *r, unsigned way, wg_ledger *l) {
     count[2] = &l->absorbed;
     count[3] = &l->lost;
     switch (way) {
-    case 14: /* one counter of each side passes M by the same amount */
-        more = M + 1 - (l->sent < l->absorbed ? l->sent : l->absorbed) + below(r, 3);
-        l->sent += more;
-        l->absorbed += more;
+    case 14: /* one counter alone passes M */
+        more = l->sent + l->copied - l->absorbed - l->lost; /* the parcels that wait */
+        *count[k] = M + 1 + below(r, 3);
+        if (k < 2) {
+            l->absorbed = M - below(r, 3);
+            l->lost = M - below(r, 3);
+            *count[1 - k] = l->absorbed + l->lost + more - *count[k];
+            return *count[1 - k] <= M;
+        }
+        *count[5 - k] = below(r, 5);
+        l->sent = M - below(r, 3);
+        l->copied = l->absorbed + l->lost + more - l->sent;
         return 1;
     case 15: /* right only if the sum is taken in 64 bits */
         l->sent += UINT64_C(1) << 63;

@@ -110,7 +110,8 @@ size_t some_text(rng *r, uint8_t *text, size_t most) {
         n += m;
         text[n++] = 10;
     }
-    /* the rest is filled, so that the text has exactly that many bytes; most often its last piece has no line end */
+    if (n > 0 && one_in(r, 3)) return n - 1; /* a last step that lacks only its line end */
+    /* else the rest is filled, so that the text has exactly that many bytes */
     while (n < most) text[n++] = one_in(r, 4) ? 10 : (uint8_t)('a' + below(r, 26));
     if (n > 0 && one_in(r, 2)) text[n - 1] = 10;
     return n;
