@@ -1,0 +1,308 @@
+/* daemon.c: three sites as three processes that trade updates over UDP on the loopback. The link is bad on purpose: a seeded coin in each sender
+ * drops datagrams, repeats them and holds them back, so that they arrive late and out of order. After the last round the tables differ.
+ * Then each site sends its whole table to the others, and all three tables are equal.
+ *
+ * Each process keeps a run of its own with three sites: its own table, and for each neighbour what it knows of the neighbour's. So every
+ * change of its memory is a step of the library:
+ *
+ *   publish, withdraw        wg_add, wg_remove at the own site, then wg_send to each neighbour: the update waits in a slot
+ *   the coin drops it        wg_lose
+ *   the coin repeats it      wg_again: a second copy waits
+ *   it goes out              a datagram with the slot's id and length, and wg_deliver: the neighbour will know this much
+ *   a datagram comes in      wg_add and wg_remove at the neighbour's site up to the length that it told, then wg_merge into the own site
+ *
+ * The parent only keeps the rounds in step, so that one seed gives one result, and adds up at the end.
+ *
+ *   daemon [SEED]        ends with status 0 exactly when the tables are equal and every count adds up */
+#define _DEFAULT_SOURCE
+#include <arpa/inet.h>
+#include <inttypes.h>
+#include <poll.h>
+#include <stdio.h>
+#include <stdlib.h>
+#include <string.h>
+#include <sys/socket.h>
+#include <sys/wait.h>
+#include <unistd.h>
+#include <wiregantry.h>
+
+enum { SITES = 3, CAPACITY = 64, SLOTS = 10, IDS = 48, ROUNDS = 60, LONGEST = 1000 };
+
+static void die(const char *what) {
+    perror(what);
+    exit(2);
+}
+
+/* A step that must be accepted; a refusal here is a fault of this program. */
+static void must(uint32_t refusal, const char *step) {
+    if (refusal == WG_ACCEPTED) return;
+    fprintf(stderr, "daemon: %s: %s\n", step, wg_refusal_text(refusal));
+    exit(2);
+}
+
+static uint64_t coin_state;
+
+static uint64_t coin(uint64_t sides) {
+    uint64_t z = coin_state += UINT64_C(0x9e3779b97f4a7c15);
+    z = (z ^ z >> 30) * UINT64_C(0xbf58476d1ce4e5b9);
+    z = (z ^ z >> 27) * UINT64_C(0x94d049bb133111eb);
+    return (z ^ z >> 31) % sides;
+}
+
+/* ---- what a process has ---- */
+
+static uint64_t words[WG_WORDS(SITES, CAPACITY)];
+static wg_parcel slots[SLOTS];
+static wg_ledger ledger;
+static const wg_run run = {words, WG_WORDS(SITES, CAPACITY), slots, SLOTS, &ledger, SITES, CAPACITY};
+
+static uint64_t self;                    /* this process's site */
+static int sockets[SITES];               /* each process reads its own and writes from it */
+static struct sockaddr_in places[SITES];
+static int umpire;                       /* the pipe to the parent */
+
+/* What a process tells its parent at the end. The first counts are its own, kept beside the ledger to compare with it. */
+typedef struct {
+    uint64_t sends, copies, told, drops, put_off, heard, stale, waiting;
+    wg_ledger ledger;
+    uint64_t table[2 * CAPACITY];
+} account;
+
+static account mine;
+
+static uint64_t *own_table(void) { return words + self * 2 * CAPACITY; }
+
+/* ---- datagrams: the sender, how many entries, then an id and a length each ---- */
+
+static void tell(uint64_t site, const uint64_t *entries, uint64_t count) {
+    uint64_t datagram[2 + 2 * CAPACITY];
+    size_t bytes = (size_t)(2 + 2 * count) * 8;
+    datagram[0] = self;
+    datagram[1] = count;
+    memcpy(datagram + 2, entries, (size_t)count * 16);
+    if (sendto(sockets[self], datagram, bytes, 0, (struct sockaddr *)&places[site], sizeof places[site]) != (ssize_t)bytes) die("sendto");
+}
+
+/* The neighbour says that its length for id is `told`; a lower one is old news. */
+static void learn(uint64_t neighbour, uint64_t id, uint64_t told) {
+    uint64_t length;
+    if (told > LONGEST) return; /* nobody gets that far here: a damaged datagram */
+    must(wg_query(&run, neighbour, id, &length), "query");
+    while (length < told)
+        must(wg_listed(length) ? wg_remove(&run, neighbour, id, &length) : wg_add(&run, neighbour, id, &length), "add or remove");
+}
+
+static void hear(void) {
+    uint64_t datagram[2 + 2 * CAPACITY], k, rose;
+    struct pollfd ready = {sockets[self], POLLIN, 0};
+    ssize_t bytes;
+    if (poll(&ready, 1, 5000) != 1) die("a datagram that was sent did not arrive");
+    bytes = recv(sockets[self], datagram, sizeof datagram, 0);
+    if (bytes < 16 || datagram[0] >= SITES || datagram[0] == self || datagram[1] > CAPACITY || (uint64_t)bytes != 16 + 16 * datagram[1])
+        die("a datagram of another form");
+    for (k = 0; k < datagram[1]; k++) learn(datagram[0], datagram[2 + 2 * k], datagram[3 + 2 * k]);
+    must(wg_merge(&run, datagram[0], self, &rose), "merge");
+    mine.heard++;
+    mine.stale += rose == 0; /* repeated, overtaken, or known from elsewhere */
+}
+
+/* ---- one round ---- */
+
+static void update(uint64_t id) {
+    uint64_t length, slot, site;
+    uint32_t refusal;
+    must(coin(5) < 3 ? wg_add(&run, self, id, &length) : wg_remove(&run, self, id, &length), "add or remove");
+    for (site = 0; site < SITES; site++) {
+        if (site == self) continue;
+        refusal = wg_send(&run, self, site, id, &slot);
+        if (refusal == WG_NO_SLOT) mine.put_off++; /* the buffer is full, and the count of it is printed */
+        else if (refusal == WG_ACCEPTED) mine.sends++;
+        else if (refusal != WG_NOTHING_TO_SEND) must(refusal, "send");
+    }
+}
+
+/* What the link does with the update in a slot; `last`: nothing is held back any more. */
+static void travel(uint64_t slot, uint64_t sent_to[SITES], int last) {
+    uint64_t other, length, entry[2], side = coin(100);
+    wg_parcel parcel = slots[slot];
+    if (!last && side < 25) return; /* held back: later ones overtake it */
+    if (side < 40) {
+        must(wg_lose(&run, slot), "lose");
+        mine.drops++;
+        return;
+    }
+    if (!last && side < 60 && wg_again(&run, slot, &other) == WG_ACCEPTED) mine.copies++;
+    entry[0] = parcel.id;
+    entry[1] = parcel.length;
+    tell(parcel.site, entry, 1);
+    must(wg_deliver(&run, slot, &length), "deliver");
+    sent_to[parcel.site]++;
+    mine.told++;
+}
+
+static void talk(int pipe_end, void *what, size_t n, int out) {
+    size_t done = 0;
+    while (done < n) {
+        ssize_t k = out ? write(pipe_end, (char *)what + done, n - done) : read(pipe_end, (char *)what + done, n - done);
+        if (k <= 0) die("a process is gone");
+        done += (size_t)k;
+    }
+}
+
+/* Tells the parent what went where, learns how much comes, and takes it in. */
+static void listen_up(uint64_t sent_to[SITES]) {
+    uint64_t coming;
+    talk(umpire, sent_to, SITES * sizeof *sent_to, 1);
+    talk(umpire, &coming, sizeof coming, 0);
+    while (coming-- > 0) hear();
+}
+
+static void one_round(int last) {
+    uint64_t sent_to[SITES] = {0}, k, from = coin(SLOTS);
+    if (!last)
+        for (k = 1 + coin(3); k > 0; k--) update(1 + coin(IDS));
+    for (k = 0; k < SLOTS; k++) {
+        uint64_t slot = (from + 7 * k) % SLOTS; /* 7 and the slots have no common factor, so each has its turn */
+        if (slots[slot].length != 0) travel(slot, sent_to, last);
+    }
+    listen_up(sent_to);
+}
+
+static void repair(void) {
+    uint64_t sent_to[SITES] = {0}, site, held = 0;
+    while (held < CAPACITY && own_table()[2 * held + 1] != 0) held++;
+    for (site = 0; site < SITES; site++) {
+        if (site == self) continue;
+        tell(site, own_table(), held);
+        sent_to[site]++;
+    }
+    listen_up(sent_to);
+}
+
+static void settle(void) {
+    uint64_t k;
+    mine.ledger = ledger;
+    memcpy(mine.table, own_table(), sizeof mine.table);
+    for (mine.waiting = 0, k = 0; k < SLOTS; k++) mine.waiting += slots[k].length != 0;
+    talk(umpire, &mine, sizeof mine, 1);
+}
+
+static void be_site(uint64_t site, int pipe_end, uint64_t seed) {
+    int k;
+    self = site;
+    umpire = pipe_end;
+    coin_state = seed * SITES + site;
+    must(wg_start(&run), "fresh");
+    for (k = 0; k <= ROUNDS; k++) one_round(k == ROUNDS);
+    settle();
+    repair();
+    settle();
+    exit(0);
+}
+
+/* ---- the parent ---- */
+
+static int pipes[SITES];
+static account accounts[SITES];
+
+static void keep_step(void) {
+    uint64_t sent_to[SITES][SITES], site, k, coming;
+    for (site = 0; site < SITES; site++) talk(pipes[site], sent_to[site], sizeof sent_to[site], 0);
+    for (site = 0; site < SITES; site++) {
+        for (coming = 0, k = 0; k < SITES; k++) coming += sent_to[k][site];
+        talk(pipes[site], &coming, sizeof coming, 1);
+    }
+}
+
+static void collect(void) {
+    int site;
+    for (site = 0; site < SITES; site++) talk(pipes[site], &accounts[site], sizeof accounts[site], 0);
+}
+
+static uint64_t length_in(const uint64_t *table, uint64_t id) {
+    int k;
+    for (k = 0; k < CAPACITY; k++)
+        if (table[2 * k + 1] != 0 && table[2 * k] == id) return table[2 * k + 1];
+    return 0;
+}
+
+static int ids_that_differ(void) {
+    int differ = 0;
+    uint64_t id, site;
+    for (id = 1; id <= IDS; id++)
+        for (site = 1; site < SITES; site++)
+            if (length_in(accounts[site].table, id) != length_in(accounts[0].table, id)) {
+                differ++;
+                break;
+            }
+    return differ;
+}
+
+static int tables_equal(void) {
+    return memcmp(accounts[0].table, accounts[1].table, sizeof accounts[0].table) == 0 &&
+           memcmp(accounts[0].table, accounts[2].table, sizeof accounts[0].table) == 0;
+}
+
+/* The ledger against the counts that the process kept itself, and against the rule that nothing goes missing uncounted. */
+static int adds_up(const account *a) {
+    return a->ledger.sent == a->sends && a->ledger.copied == a->copies && a->ledger.absorbed == a->told && a->ledger.lost == a->drops &&
+           a->ledger.sent + a->ledger.copied == a->ledger.absorbed + a->ledger.lost + a->waiting;
+}
+
+static int judge(int differed) {
+    int site, ok = 1;
+    uint64_t told = 0, heard = 0, listed = 0, held = 0, k;
+    for (site = 0; site < SITES; site++) {
+        const account *a = &accounts[site];
+        printf("site=%d sent=%" PRIu64 " copied=%" PRIu64 " absorbed=%" PRIu64 " lost=%" PRIu64 " waiting=%" PRIu64 " put_off=%" PRIu64 " stale=%" PRIu64 "\n", site,
+               a->ledger.sent, a->ledger.copied, a->ledger.absorbed, a->ledger.lost, a->waiting, a->put_off, a->stale);
+        ok = ok && adds_up(a);
+        told += a->told;
+        heard += a->heard - 2; /* two whole tables were heard in the repair */
+    }
+    for (k = 0; k < CAPACITY; k++) {
+        held += accounts[0].table[2 * k + 1] != 0;
+        listed += accounts[0].table[2 * k + 1] & 1;
+    }
+    printf("datagrams: %" PRIu64 " told, %" PRIu64 " heard\n", told, heard);
+    printf("before the repair %d ids differed; after it the tables are %s: held=%" PRIu64 " shown=%" PRIu64 "\n", differed,
+           tables_equal() ? "equal" : "NOT EQUAL", held, listed);
+    ok = ok && told == heard && tables_equal();
+    printf("%s\n", ok ? "every count adds up" : "SOMETHING DOES NOT ADD UP");
+    return ok;
+}
+
+static void open_sockets(void) {
+    int site;
+    for (site = 0; site < SITES; site++) {
+        socklen_t size = sizeof places[site];
+        sockets[site] = socket(AF_INET, SOCK_DGRAM, 0);
+        places[site].sin_family = AF_INET;
+        places[site].sin_addr.s_addr = htonl(INADDR_LOOPBACK);
+        if (sockets[site] < 0 || bind(sockets[site], (struct sockaddr *)&places[site], size) != 0) die("bind");
+        if (getsockname(sockets[site], (struct sockaddr *)&places[site], &size) != 0) die("getsockname");
+    }
+}
+
+int main(int n_args, char **args) {
+    uint64_t seed = n_args > 1 ? strtoull(args[1], 0, 10) : 2020;
+    int site, k, ends[2], differed, status, ok;
+    open_sockets();
+    for (site = 0; site < SITES; site++) {
+        if (socketpair(AF_UNIX, SOCK_STREAM, 0, ends) != 0) die("socketpair");
+        switch (fork()) {
+        case -1: die("fork"); break;
+        case 0: close(ends[0]); be_site((uint64_t)site, ends[1], seed); break;
+        default: close(ends[1]); pipes[site] = ends[0];
+        }
+    }
+    for (k = 0; k <= ROUNDS; k++) keep_step();
+    collect();
+    differed = ids_that_differ();
+    keep_step();
+    collect();
+    ok = judge(differed);
+    for (site = 0; site < SITES; site++)
+        if (wait(&status) < 0 || status != 0) ok = 0;
+    return ok ? 0 : 1;
+}
