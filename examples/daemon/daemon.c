@@ -251,20 +251,21 @@ static int adds_up(const account *a) {
 
 static int judge(int differed) {
     int site, ok = 1;
-    uint64_t told = 0, heard = 0, listed = 0, held = 0, k;
+    uint64_t told = 0, heard = 0, stale = 0, listed = 0, held = 0, k;
     for (site = 0; site < SITES; site++) {
         const account *a = &accounts[site];
-        printf("site=%d sent=%" PRIu64 " copied=%" PRIu64 " absorbed=%" PRIu64 " lost=%" PRIu64 " waiting=%" PRIu64 " put_off=%" PRIu64 " stale=%" PRIu64 "\n", site,
-               a->ledger.sent, a->ledger.copied, a->ledger.absorbed, a->ledger.lost, a->waiting, a->put_off, a->stale);
+        printf("site=%d sent=%" PRIu64 " copied=%" PRIu64 " absorbed=%" PRIu64 " lost=%" PRIu64 " waiting=%" PRIu64 " put_off=%" PRIu64 "\n", site,
+               a->ledger.sent, a->ledger.copied, a->ledger.absorbed, a->ledger.lost, a->waiting, a->put_off);
         ok = ok && adds_up(a);
         told += a->told;
         heard += a->heard - 2; /* two whole tables were heard in the repair */
+        stale += a->stale;     /* how many depends on which of two datagrams came first, so the number is not printed */
     }
     for (k = 0; k < CAPACITY; k++) {
         held += accounts[0].table[2 * k + 1] != 0;
         listed += accounts[0].table[2 * k + 1] & 1;
     }
-    printf("datagrams: %" PRIu64 " told, %" PRIu64 " heard\n", told, heard);
+    printf("datagrams: %" PRIu64 " told, %" PRIu64 " heard, %s brought nothing new\n", told, heard, stale > 0 ? "some" : "none");
     printf("before the repair %d ids differed; after it the tables are %s: held=%" PRIu64 " shown=%" PRIu64 "\n", differed,
            tables_equal() ? "equal" : "NOT EQUAL", held, listed);
     ok = ok && told == heard && tables_equal();
