@@ -64,6 +64,21 @@ static const struct {
 
 static uint64_t met[CALLS][15], damaged[DAMAGES];
 
+/* steps at each end of the sizes */
+static uint64_t at_size[8];
+static const char *const size_names[8] = {"1 site", "16 sites", "C = 0", "C = 1", "C = 2,048", "no slots", "1,024 slots", "all largest"};
+
+static void meet_size(const shape *s) {
+    at_size[0] += s->sites == 1;
+    at_size[1] += s->sites == 16;
+    at_size[2] += s->capacity == 0;
+    at_size[3] += s->capacity == 1;
+    at_size[4] += s->capacity == 2048;
+    at_size[5] += s->n_slots == 0;
+    at_size[6] += s->n_slots == 1024;
+    at_size[7] += s->sites == 16 && s->capacity == 2048 && s->n_slots == 1024;
+}
+
 static int call_of(uint64_t kind) { return kind >= 1 && kind <= 8 ? (int)kind : NO_KIND; }
 
 static void meet(int call, uint32_t refusal) {
@@ -149,6 +164,7 @@ static uint32_t do_step(rng *r, const shape *s, numbers n) {
     same_areas(state_areas);
     if (b != 0) same_answers(*LIB(value, uint64_t), 0, "*value of a refusal (model: what it must be)");
     meet(call_of(n.kind), b);
+    if (b != 1 && b != 11) meet_size(s);
     return b;
 }
 
@@ -434,6 +450,11 @@ static int print_met(void) {
         if (damaged[k] == 0) missed++;
         printf("damaged states, %s: %" PRIu64 "\n", damage_names[k], damaged[k]);
     }
+    for (k = 0; k < 8; k++) {
+        if (at_size[k] == 0) missed++;
+        printf("%s%s: %" PRIu64, k == 0 ? "steps at sizes, " : ", ", size_names[k], at_size[k]);
+    }
+    printf("\n");
     for (k = 1; k < 15; k++)
         if (sum[k] < 1000) missed++;
     return missed;
