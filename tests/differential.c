@@ -413,7 +413,7 @@ static void case_report(rng *r, int large) {
 
 static void one_case(uint64_t k) {
     rng r = rng_of(seed, k);
-    int large = one_in(&r, 600);
+    int large = one_in(&r, 150);
     number = k;
     switch (below(&r, 16)) {
     case 0: case 1: case 2: case_run(&r, large); break;

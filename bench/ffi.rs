@@ -1,0 +1,94 @@
+// What include/wiregantry.h declares, for the calls that are measured.
+#[repr(C)]
+#[derive(Clone, Copy, Default)]
+pub struct Parcel {
+    pub site: u64,
+    pub id: u64,
+    pub length: u64,
+}
+
+#[repr(C)]
+#[derive(Clone, Copy, Default)]
+pub struct Ledger {
+    pub sent: u64,
+    pub copied: u64,
+    pub absorbed: u64,
+    pub lost: u64,
+}
+
+extern "C" {
+    fn wg_step(words: *mut u64, n_words: usize, slots: *mut Parcel, n_slots: usize, ledger: *mut Ledger, sites: u64, capacity: u64,
+               kind: u64, first: u64, second: u64, id: u64, value: *mut u64) -> u32;
+    fn wg_members(table: *const u64, n_words: usize, ids: *const u64, n_ids: usize, answers: *mut u8, n_answers: usize) -> u32;
+    fn wg_read_line(line: *const u8, n: usize, area: *mut u8, n_area: usize) -> u32;
+    fn wg_write_line(kind: u64, first: u64, second: u64, id: u64, buffer: *mut u8, room: usize) -> usize;
+    fn wg_report(input: *const u8, n: usize, out: *mut u8, room: usize, written: *mut usize) -> u32;
+}
+
+pub const ADD: u64 = 1;
+pub const REMOVE: u64 = 2;
+pub const QUERY: u64 = 3;
+pub const SEND: u64 = 4;
+pub const MERGE: u64 = 5;
+pub const DELIVER: u64 = 6;
+pub const LARGEST: u64 = 4_294_967_295;
+
+#[derive(Clone)]
+pub struct State {
+    pub words: Vec<u64>,
+    pub slots: Vec<Parcel>,
+    pub ledger: Ledger,
+    pub sites: u64,
+    pub capacity: u64,
+}
+
+impl State {
+    pub fn fresh(sites: usize, capacity: usize, slots: usize) -> State {
+        State {
+            words: vec![0; sites * 2 * capacity],
+            slots: vec![Parcel::default(); slots],
+            ledger: Ledger::default(),
+            sites: sites as u64,
+            capacity: capacity as u64,
+        }
+    }
+
+    pub fn table(&self, site: usize) -> &[u64] {
+        let n = 2 * self.capacity as usize;
+        &self.words[site * n..(site + 1) * n]
+    }
+
+    pub fn table_mut(&mut self, site: usize) -> &mut [u64] {
+        let n = 2 * self.capacity as usize;
+        &mut self.words[site * n..(site + 1) * n]
+    }
+
+    // The refusal and the other result.
+    pub fn step(&mut self, kind: u64, first: u64, second: u64, id: u64) -> (u32, u64) {
+        let mut value = 0;
+        let refusal = unsafe {
+            wg_step(self.words.as_mut_ptr(), self.words.len(), self.slots.as_mut_ptr(), self.slots.len(), &mut self.ledger,
+                    self.sites, self.capacity, kind, first, second, id, &mut value)
+        };
+        (refusal, value)
+    }
+}
+
+pub fn members(table: &[u64], ids: &[u64], answers: &mut [u8]) -> u32 {
+    unsafe { wg_members(table.as_ptr(), table.len(), ids.as_ptr(), ids.len(), answers.as_mut_ptr(), answers.len()) }
+}
+
+pub fn read_line(line: &[u8], area: &mut [u8; 32]) -> u32 {
+    unsafe { wg_read_line(line.as_ptr(), line.len(), area.as_mut_ptr(), area.len()) }
+}
+
+pub fn write_line(n: [u64; 4], buffer: &mut [u8]) -> usize {
+    unsafe { wg_write_line(n[0], n[1], n[2], n[3], buffer.as_mut_ptr(), buffer.len()) }
+}
+
+pub fn report(input: &[u8], out: &mut [u8]) -> usize {
+    let mut written = 0;
+    let refusal = unsafe { wg_report(input.as_ptr(), input.len(), out.as_mut_ptr(), out.len(), &mut written) };
+    assert_eq!(refusal, 0);
+    written
+}

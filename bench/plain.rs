@@ -1,0 +1,298 @@
+// What the library is measured against: the plainest safe Rust that does the same job.
+use crate::ffi::{Ledger, Parcel, State, LARGEST};
+use std::collections::HashMap;
+use std::io::Write;
+
+// ---- judging ----
+
+fn sound_table(table: &[u64]) -> bool {
+    let mut ended = false;
+    let mut before = None;
+    for entry in table.chunks_exact(2) {
+        let (id, length) = (entry[0], entry[1]);
+        if ended || length == 0 {
+            if id != 0 || length != 0 {
+                return false;
+            }
+            ended = true;
+            continue;
+        }
+        if length > LARGEST || before.is_some_and(|b| b >= id) {
+            return false;
+        }
+        before = Some(id);
+    }
+    true
+}
+
+fn sound_slots(slots: &[Parcel], sites: u64) -> Option<u64> {
+    let mut waiting = 0;
+    for p in slots {
+        if p.length == 0 {
+            if p.site != 0 || p.id != 0 {
+                return None;
+            }
+        } else {
+            if p.length > LARGEST || p.site >= sites {
+                return None;
+            }
+            waiting += 1;
+        }
+    }
+    Some(waiting)
+}
+
+fn sound_ledger(l: &Ledger, waiting: u64) -> bool {
+    let each = [l.sent, l.copied, l.absorbed, l.lost].iter().all(|&n| n <= LARGEST);
+    each && l.sent + l.copied == l.absorbed + l.lost + waiting
+}
+
+pub fn judge(s: &State) -> bool {
+    let n = 2 * s.capacity as usize;
+    if s.sites < 1 || s.sites > 16 || s.capacity > 2048 || s.slots.len() > 1024 || s.words.len() != s.sites as usize * n {
+        return false;
+    }
+    if n > 0 && !s.words.chunks_exact(n).all(sound_table) {
+        return false;
+    }
+    match sound_slots(&s.slots, s.sites) {
+        None => false,
+        Some(waiting) => sound_ledger(&s.ledger, waiting),
+    }
+}
+
+pub fn read_once(s: &State) -> u64 {
+    let words = s.words.iter().fold(0u64, |sum, w| sum.wrapping_add(*w));
+    s.slots.iter().fold(words, |sum, p| sum.wrapping_add(p.site).wrapping_add(p.id).wrapping_add(p.length))
+}
+
+// ---- one table ----
+
+pub fn used(table: &[u64]) -> usize {
+    let (mut lo, mut hi) = (0, table.len() / 2);
+    while lo < hi {
+        let mid = (lo + hi) / 2;
+        if table[2 * mid + 1] != 0 { lo = mid + 1 } else { hi = mid }
+    }
+    lo
+}
+
+// Where the id stands, or where it would.
+fn find(table: &[u64], id: u64) -> Result<usize, usize> {
+    let pairs = table[..2 * used(table)].as_chunks::<2>().0;
+    pairs.binary_search_by_key(&id, |pair| pair[0])
+}
+
+pub fn length_of(table: &[u64], id: u64) -> u64 {
+    find(table, id).map_or(0, |k| table[2 * k + 1])
+}
+
+pub fn put(table: &mut [u64], id: u64, length: u64) -> bool {
+    match find(table, id) {
+        Ok(k) => table[2 * k + 1] = length,
+        Err(k) => {
+            let n = used(table);
+            if 2 * n == table.len() {
+                return false;
+            }
+            table.copy_within(2 * k..2 * n, 2 * k + 2);
+            table[2 * k] = id;
+            table[2 * k + 1] = length;
+        }
+    }
+    true
+}
+
+// Two pointers into a fresh buffer; the number of lengths that rose, or none where it does not fit.
+pub fn merge(target: &mut [u64], source: &[u64]) -> Option<u64> {
+    let a = target[..2 * used(target)].as_chunks::<2>().0;
+    let b = source[..2 * used(source)].as_chunks::<2>().0;
+    let mut out: Vec<[u64; 2]> = Vec::with_capacity(a.len() + b.len());
+    let (mut i, mut j, mut rose) = (0, 0, 0);
+    while i < a.len() && j < b.len() {
+        if a[i][0] < b[j][0] {
+            out.push(a[i]);
+            i += 1;
+        } else if a[i][0] > b[j][0] {
+            out.push(b[j]);
+            rose += 1;
+            j += 1;
+        } else {
+            rose += (b[j][1] > a[i][1]) as u64;
+            out.push([a[i][0], a[i][1].max(b[j][1])]);
+            i += 1;
+            j += 1;
+        }
+    }
+    out.extend_from_slice(&a[i..]);
+    rose += (b.len() - j) as u64;
+    out.extend_from_slice(&b[j..]);
+    if 2 * out.len() > target.len() {
+        return None;
+    }
+    target[..2 * out.len()].copy_from_slice(out.as_flattened());
+    Some(rose)
+}
+
+// ---- membership ----
+
+pub fn members(table: &[u64], ids: &[u64], answers: &mut [u8]) {
+    answers.fill(0);
+    let pairs = table[..2 * used(table)].as_chunks::<2>().0;
+    for (i, id) in ids.iter().enumerate() {
+        if let Ok(k) = pairs.binary_search_by_key(id, |pair| pair[0]) {
+            answers[i / 8] |= ((pairs[k][1] & 1) as u8) << (i % 8);
+        }
+    }
+}
+
+pub fn map_of(table: &[u64]) -> HashMap<u64, u64> {
+    table[..2 * used(table)].as_chunks::<2>().0.iter().map(|p| (p[0], p[1])).collect()
+}
+
+pub fn members_by_map(map: &HashMap<u64, u64>, ids: &[u64], answers: &mut [u8]) {
+    answers.fill(0);
+    for (i, id) in ids.iter().enumerate() {
+        let listed = map.get(id).is_some_and(|l| l & 1 == 1);
+        answers[i / 8] |= (listed as u8) << (i % 8);
+    }
+}
+
+// ---- lines ----
+
+fn number(text: &str) -> Option<u64> {
+    if (text.len() > 1 && text.starts_with('0')) || text.starts_with('+') {
+        return None;
+    }
+    text.parse().ok()
+}
+
+// Split and parse.
+pub fn read_line(line: &[u8]) -> Option<[u64; 4]> {
+    let text = std::str::from_utf8(line).ok()?;
+    let pairs: Vec<(&str, &str)> = text.split(' ').map(|p| p.split_once('=')).collect::<Option<_>>()?;
+    let kind = |name: &str| ["add", "remove", "query", "send", "merge", "deliver", "again", "lose"].iter().position(|k| *k == name);
+    match pairs[..] {
+        [("step", name @ ("add" | "remove" | "query")), ("node", n), ("id", i)] => Some([kind(name)? as u64 + 1, number(n)?, 0, number(i)?]),
+        [("step", "send"), ("from", a), ("to", b), ("id", i)] => Some([4, number(a)?, number(b)?, number(i)?]),
+        [("step", "merge"), ("from", a), ("to", b)] => Some([5, number(a)?, number(b)?, 0]),
+        [("step", name @ ("deliver" | "again" | "lose")), ("slot", s)] => Some([kind(name)? as u64 + 1, number(s)?, 0, 0]),
+        _ => None,
+    }
+}
+
+pub fn write_line(n: [u64; 4], mut buffer: &mut [u8]) -> usize {
+    let room = buffer.len();
+    let names = ["", "add", "remove", "query", "send", "merge", "deliver", "again", "lose"];
+    let name = names[n[0] as usize];
+    let done = match n[0] {
+        1..=3 => write!(buffer, "step={name} node={} id={}", n[1], n[3]),
+        4 => write!(buffer, "step={name} from={} to={} id={}", n[1], n[2], n[3]),
+        5 => write!(buffer, "step={name} from={} to={}", n[1], n[2]),
+        _ => write!(buffer, "step={name} slot={}", n[1]),
+    };
+    if done.is_err() { 0 } else { room - buffer.len() }
+}
+
+// ---- the report: three sites with 8 entries each in maps, 8 slots ----
+
+struct Kept {
+    sites: [std::collections::BTreeMap<u64, u64>; 3],
+    slots: [Option<(usize, u64, u64)>; 8],
+    counts: [u64; 4],
+}
+
+fn run_step(k: &mut Kept, n: [u64; 4]) -> Result<u64, u32> {
+    let site = |s: u64| if s < 3 { Ok(s as usize) } else { Err(3u32) };
+    let free = |k: &Kept| k.slots.iter().position(|s| s.is_none()).ok_or(9u32);
+    let at = |k: &Kept, s: u64| k.slots.get(s as usize).copied().flatten().ok_or(5u32);
+    match n[0] {
+        1..=3 => {
+            let table = &mut k.sites[site(n[1])?];
+            let now = table.get(&n[3]).copied().unwrap_or(0);
+            if n[0] == 3 || now % 2 == n[0] % 2 {
+                return Ok(now);
+            }
+            if now == 0 && table.len() == 8 {
+                return Err(8);
+            }
+            table.insert(n[3], now + 1);
+            Ok(now + 1)
+        }
+        4 => {
+            let (a, b) = (site(n[1])?, site(n[2])?);
+            if a == b {
+                return Err(4);
+            }
+            let length = *k.sites[a].get(&n[3]).ok_or(6u32)?;
+            let slot = free(k)?;
+            k.slots[slot] = Some((b, n[3], length));
+            k.counts[0] += 1;
+            Ok(slot as u64)
+        }
+        5 => {
+            let (a, b) = (site(n[1])?, site(n[2])?);
+            if a == b {
+                return Err(4);
+            }
+            let mut joined = k.sites[b].clone();
+            let mut rose = 0;
+            for (id, length) in &k.sites[a] {
+                let now = joined.entry(*id).or_insert(0);
+                rose += (*length > *now) as u64;
+                *now = (*now).max(*length);
+            }
+            if joined.len() > 8 {
+                return Err(8);
+            }
+            k.sites[b] = joined;
+            Ok(rose)
+        }
+        6 => {
+            let (site, id, length) = at(k, n[1])?;
+            let table = &mut k.sites[site];
+            let now = table.get(&id).copied().unwrap_or(0);
+            if now == 0 && table.len() == 8 {
+                return Err(8);
+            }
+            table.insert(id, now.max(length));
+            k.slots[n[1] as usize] = None;
+            k.counts[2] += 1;
+            Ok(now.max(length))
+        }
+        7 => {
+            let parcel = at(k, n[1])?;
+            let slot = free(k)?;
+            k.slots[slot] = Some(parcel);
+            k.counts[1] += 1;
+            Ok(slot as u64)
+        }
+        _ => {
+            at(k, n[1])?;
+            k.slots[n[1] as usize] = None;
+            k.counts[3] += 1;
+            Ok(0)
+        }
+    }
+}
+
+pub fn report(input: &[u8]) -> Vec<u8> {
+    let mut k = Kept { sites: Default::default(), slots: [None; 8], counts: [0; 4] };
+    let mut out = Vec::new();
+    for (i, piece) in input.split_inclusive(|b| *b == 10).enumerate() {
+        let step = piece.strip_suffix(b"\n").and_then(read_line);
+        match step.ok_or(11).and_then(|n| run_step(&mut k, n).map(|v| (n, v))) {
+            Err(refusal) => writeln!(out, "line={} refused={refusal}", i + 1).unwrap(),
+            Ok((n, v)) if n[0] == 3 => writeln!(out, "line={} node={} id={} length={v} present={}", i + 1, n[1], n[3], v % 2).unwrap(),
+            Ok(_) => {}
+        }
+    }
+    for (name, count) in ["sent", "copied", "absorbed", "lost"].iter().zip(k.counts) {
+        writeln!(out, "{name}={count}").unwrap();
+    }
+    writeln!(out, "waiting={}", k.slots.iter().flatten().count()).unwrap();
+    for (i, site) in k.sites.iter().enumerate() {
+        writeln!(out, "node={i} shown={}", site.len()).unwrap();
+    }
+    out
+}
