@@ -167,16 +167,24 @@ fn number(text: &str) -> Option<u64> {
     text.parse().ok()
 }
 
-// Split and parse.
+// Split and parse, with no allocation.
 pub fn read_line(line: &[u8]) -> Option<[u64; 4]> {
     let text = std::str::from_utf8(line).ok()?;
-    let pairs: Vec<(&str, &str)> = text.split(' ').map(|p| p.split_once('=')).collect::<Option<_>>()?;
-    let kind = |name: &str| ["add", "remove", "query", "send", "merge", "deliver", "again", "lose"].iter().position(|k| *k == name);
-    match pairs[..] {
-        [("step", name @ ("add" | "remove" | "query")), ("node", n), ("id", i)] => Some([kind(name)? as u64 + 1, number(n)?, 0, number(i)?]),
+    let mut pairs = [("", ""); 5];
+    let mut n = 0;
+    for pair in text.split(' ').take(5) {
+        pairs[n] = pair.split_once('=')?;
+        n += 1;
+    }
+    match pairs[..n] {
+        [("step", "add"), ("node", n), ("id", i)] => Some([1, number(n)?, 0, number(i)?]),
+        [("step", "remove"), ("node", n), ("id", i)] => Some([2, number(n)?, 0, number(i)?]),
+        [("step", "query"), ("node", n), ("id", i)] => Some([3, number(n)?, 0, number(i)?]),
         [("step", "send"), ("from", a), ("to", b), ("id", i)] => Some([4, number(a)?, number(b)?, number(i)?]),
         [("step", "merge"), ("from", a), ("to", b)] => Some([5, number(a)?, number(b)?, 0]),
-        [("step", name @ ("deliver" | "again" | "lose")), ("slot", s)] => Some([kind(name)? as u64 + 1, number(s)?, 0, 0]),
+        [("step", "deliver"), ("slot", s)] => Some([6, number(s)?, 0, 0]),
+        [("step", "again"), ("slot", s)] => Some([7, number(s)?, 0, 0]),
+        [("step", "lose"), ("slot", s)] => Some([8, number(s)?, 0, 0]),
         _ => None,
     }
 }

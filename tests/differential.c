@@ -176,7 +176,9 @@ static uint64_t some_site(rng *r, const shape *s) {
 static numbers some_numbers(rng *r, const shape *s, const pool *p) {
     /* adds and sends are the ones that give the others something to do */
     static const uint8_t kinds[] = {1, 1, 1, 1, 2, 2, 2, 3, 4, 4, 4, 4, 5, 5, 6, 6, 7, 8};
-    numbers n = {kinds[below(r, sizeof kinds)], some_site(r, s), 0, 0};
+    numbers n = {0, 0, 0, 0};
+    n.kind = kinds[below(r, sizeof kinds)];
+    n.first = some_site(r, s);
     if (one_in(r, 60)) n.kind = one_in(r, 2) ? 9 * below(r, 2) : edge(r);
     if (n.kind <= 4) n.id = some_id(r, p);
     if (n.kind == 4 || n.kind == 5) {
@@ -299,7 +301,10 @@ static void case_members(rng *r, int large) {
     area_place(&ids, r, n_ids * 8);
     for (k = 0; k < n_ids; k++) LIB(ids, uint64_t)[k] = some_id(r, &ids_of_case);
     if (one_in(r, 2)) qsort(LIB(ids, uint64_t), n_ids, 8, by_size);
-    if (n_ids > 2 && one_in(r, 8)) LIB(ids, uint64_t)[below(r, n_ids)] = some_id(r, &ids_of_case); /* nearly rising */
+    if (n_ids > 2 && one_in(r, 8)) { /* nearly rising */
+        k = (size_t)below(r, n_ids);
+        LIB(ids, uint64_t)[k] = some_id(r, &ids_of_case);
+    }
     area_share(&ids);
     if (one_in(r, 4)) n_answers += (size_t)below(r, 20);
     if (one_in(r, 10)) n_answers = (size_t)below(r, need + 1);
@@ -341,9 +346,9 @@ static void case_write(rng *r) {
     some_pool(r, &ids_of_case, 8);
     n = some_numbers(r, &s, &ids_of_case);
     if (one_in(r, 2)) {
-        n.first = draw(r) >> below(r, 64);
-        if (n.second != 0) n.second = draw(r) >> below(r, 64);
-        if (n.id != 0) n.id = draw(r) >> below(r, 64);
+        n.first = any_width(r, 0);
+        if (n.second != 0) n.second = any_width(r, 0);
+        if (n.id != 0) n.id = any_width(r, 0);
     }
     do_write(r, n);
     /* the check takes any room, as no buffer is lent to it */
@@ -355,7 +360,7 @@ static void case_write(rng *r) {
 static void case_read(rng *r) {
     static area *const areas[] = {&line, &room, 0};
     uint8_t text[LINE_ROOM * 2], back[128];
-    size_t n = some_line(r, one_in(r, 3), text), has = one_in(r, 10) ? (size_t)below(r, 32) : 32 + (size_t)below(r, 20) * below(r, 2), k;
+    size_t n = some_line(r, one_in(r, 3), text), has = one_in(r, 10) ? (size_t)below(r, 32) : one_in(r, 2) ? 32 : 32 + (size_t)below(r, 20), k;
     if (!one_in(r, 3)) n = damage_line(r, text, n);
     if (one_in(r, 6)) n = damage_line(r, text, n);
     area_place(&line, r, n);
@@ -386,7 +391,7 @@ static void case_report(rng *r, int large) {
     static uint8_t text[TEXT_MAX], full[1 << 20];
     size_t n, length, has;
     if (one_in(r, 8)) {
-        n = 32769 + (size_t)below(r, 3) * below(r, 60);
+        n = 32769 + (one_in(r, 2) ? 0 : (size_t)below(r, 120));
         memset(text, 10, n);
     } else {
         n = some_text(r, text, large ? 32766 + (size_t)below(r, 3) : (size_t)below(r, one_in(r, 4) ? 40 : 700));

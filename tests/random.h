@@ -21,6 +21,13 @@ static inline uint64_t below(rng *r, uint64_t n) { return draw(r) % n; }
 
 static inline int one_in(rng *r, uint64_t n) { return below(r, n) == 0; }
 
+/* A number of any width up to 64 bits less `least`. Here as elsewhere no expression draws twice: compilers differ in which draw comes first, and
+ * a case is to be the same with all of them. */
+static inline uint64_t any_width(rng *r, uint64_t least) {
+    uint64_t n = draw(r), shift = least + below(r, 64 - least);
+    return n >> shift;
+}
+
 /* A case has its own numbers, so that it can be run again without those before it. */
 static inline rng rng_of(uint64_t seed, uint64_t number) {
     rng r = {seed};
@@ -35,7 +42,8 @@ static inline uint64_t edge(rng *r) {
         0, 1, 2, 8, 16, 17, 83, 1024, 2048, 4096, 32768, UINT64_C(1) << 31, UINT64_C(4294967295), UINT64_C(1) << 32,
         UINT64_C(1) << 60, UINT64_C(1) << 63, UINT64_MAX,
     };
-    return middle[below(r, sizeof middle / sizeof *middle)] + below(r, 3) - 1;
+    uint64_t n = middle[below(r, sizeof middle / sizeof *middle)];
+    return n + below(r, 3) - 1;
 }
 
 #endif

@@ -41,14 +41,14 @@ shape bad_shape(rng *r) {
 
 void some_pool(rng *r, pool *p, size_t count) {
     unsigned way = (unsigned)below(r, 4);
-    uint64_t id = one_in(r, 2) ? 0 : draw(r) >> below(r, 64);
+    uint64_t id = one_in(r, 2) ? 0 : any_width(r, 0);
     size_t k;
     if (count > POOL) count = POOL;
     if (way == 3) id = UINT64_MAX - count + 1; /* ends at the last id */
     p->count = 0;
     for (k = 0; k < count; k++) {
         p->id[p->count++] = id;
-        uint64_t gap = way == 0 || way == 3 ? 1 : way == 1 ? 1 + below(r, 5) : 1 + (draw(r) >> (8 + below(r, 56)));
+        uint64_t gap = way == 0 || way == 3 ? 1 : way == 1 ? 1 + below(r, 5) : 1 + any_width(r, 8);
         if (UINT64_MAX - id < gap) break;
         id += gap;
     }
@@ -159,7 +159,7 @@ static size_t in_use(const uint64_t *words, uint64_t capacity) {
 }
 
 static uint64_t above_m(rng *r) {
-    return one_in(r, 2) ? M + 1 : one_in(r, 2) ? UINT64_MAX - below(r, 2) : M + 1 + (draw(r) >> (1 + below(r, 40)));
+    return one_in(r, 2) ? M + 1 : one_in(r, 2) ? UINT64_MAX - below(r, 2) : M + 1 + any_width(r, 1);
 }
 
 int damage_table(rng *r, unsigned way, uint64_t *words, uint64_t capacity) {
@@ -191,11 +191,13 @@ int damage_table(rng *r, unsigned way, uint64_t *words, uint64_t capacity) {
         return 1;
     case 4:
         if (used == 0) return 0;
-        words[2 * below(r, used) + 1] = above_m(r);
+        k = (size_t)below(r, used);
+        words[2 * k + 1] = above_m(r);
         return 1;
     case 5:
         if (used == capacity) return 0;
-        words[2 * (used + below(r, capacity - used))] = one_in(r, 2) ? 1 : UINT64_MAX;
+        k = used + (size_t)below(r, capacity - used);
+        words[2 * k] = one_in(r, 2) ? 1 : UINT64_MAX;
         return 1;
     case 6: /* right behind the entries a length alone is an entry with id 0, sound in an empty table */
         if (used + 1 >= capacity) return 0;

@@ -10,7 +10,7 @@ static uint64_t some_number(rng *r, int small, uint64_t few) {
     case 0: return edge(r);
     case 1: return below(r, 20);
     case 2: return UINT64_MAX - below(r, 3);
-    default: return draw(r) >> below(r, 64);
+    default: return any_width(r, 0);
     }
 }
 
@@ -63,22 +63,21 @@ static size_t other_number(rng *r, uint8_t *line, size_t n) {
 
 size_t damage_line(rng *r, uint8_t *line, size_t n) {
     static const char *const bits[] = {" ", "\n", "\r", "\t", "=", "0", "9", "a", "s", "step=add ", " id=1", " to=1", " node=0", "\x80", "\xff"};
-    size_t at;
+    size_t at = (size_t)below(r, n + 1);
+    const char *bit = bits[below(r, sizeof bits / sizeof *bits)];
     switch (below(r, 11)) {
-    case 0: return n == 0 ? 0 : cut(line, n, (size_t)below(r, n), 1);
-    case 1: return insert(line, n, (size_t)below(r, n + 1), bits[below(r, sizeof bits / sizeof *bits)]);
-    case 2: return insert(line, n, n, bits[below(r, sizeof bits / sizeof *bits)]);
+    case 0: return at < n ? cut(line, n, at, 1) : n;
+    case 1: return insert(line, n, at, bit);
+    case 2: return insert(line, n, n, bit);
     case 3:
-        if (n > 0) line[below(r, n)] = (uint8_t)draw(r);
+        if (at < n) line[at] = (uint8_t)draw(r);
         return n;
     case 4:
-        if (n > 0) line[below(r, n)] ^= (uint8_t)(1u << below(r, 8));
+        if (at < n) line[at] ^= (uint8_t)(1u << below(r, 8));
         return n;
-    case 5: return (size_t)below(r, n + 1);
+    case 5: return at;
     case 6: /* two neighbours change places */
-        if (n < 2) return n;
-        at = (size_t)below(r, n - 1);
-        {
+        if (at + 1 < n) {
             uint8_t keep = line[at];
             line[at] = line[at + 1];
             line[at + 1] = keep;
