@@ -91,7 +91,7 @@ fn main() {
     let mut rows = Vec::new();
     jobs::all(&mut rows, rounds);
     paper::all(&mut rows, rounds.min(5));
-    show::markdown(&rows);
+    show::markdown(&rows, rounds);
     if let Some(file) = svg {
         std::fs::write(&file, show::svg(&rows)).expect("the picture cannot be written");
     }

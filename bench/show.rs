@@ -5,7 +5,8 @@ fn short(x: f64) -> String {
     if x >= 100.0 { format!("{x:.0}") } else if x >= 10.0 { format!("{x:.1}") } else if x >= 0.1 { format!("{x:.2}") } else { format!("{x:.3}") }
 }
 
-pub fn markdown(rows: &[Row]) {
+pub fn markdown(rows: &[Row], rounds: usize) {
+    println!("Measured on {}, each the median of {rounds} rounds or of 5 for the paper's benchmark. Ratio: the library's time by the other's.\n", std::env::consts::ARCH);
     println!("| Job | Library | Against | Takes | Ratio |");
     println!("|---|---:|---|---:|---:|");
     for r in rows {
