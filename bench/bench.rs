@@ -2,7 +2,7 @@
 // branch predictor knows one by heart; contenders take turns within a round; a ratio is taken within each round, and what is printed is the
 // median over the rounds. Before it is timed, every contender's answer is compared with the library's.
 //
-//   bench [--quick] [SVG-FILE]
+//   bench [--quick] [--no-paper] [SVG-FILE]
 mod ffi;
 mod jobs;
 mod paper;
@@ -85,12 +85,19 @@ pub fn measure(rows: &mut Vec<Row>, job: &str, unit: &'static str, per: f64, inp
 fn main() {
     let mut rounds = 61;
     let mut svg = None;
+    let mut with_paper = true;
     for word in std::env::args().skip(1) {
-        if word == "--quick" { rounds = 5 } else { svg = Some(word) }
+        match word.as_str() {
+            "--quick" => rounds = 5,
+            "--no-paper" => with_paper = false,
+            _ => svg = Some(word),
+        }
     }
     let mut rows = Vec::new();
     jobs::all(&mut rows, rounds);
-    paper::all(&mut rows, rounds.min(5));
+    if with_paper {
+        paper::all(&mut rows, rounds.min(5));
+    }
     show::markdown(&rows, rounds);
     if let Some(file) = svg {
         std::fs::write(&file, show::svg(&rows)).expect("the picture cannot be written");

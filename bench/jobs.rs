@@ -211,13 +211,14 @@ fn lines(rows: &mut Vec<Row>, rounds: usize) {
     let bytes = texts.iter().flatten().map(|t| t.len()).sum::<usize>() as f64 / INPUTS as f64;
     for (n, t) in steps.iter().flatten().zip(texts.iter().flatten()) {
         let (mut area, mut buffer) = ([0; 32], [0; 83]);
-        assert_eq!((ffi::read_line(t, &mut area), plain::read_line(t)), (0, Some(*n)));
+        assert_eq!((ffi::read_line(t, &mut area), plain::read_line(t), plain::read_line_into_list(t)), (0, Some(*n), Some(*n)));
         assert_eq!(plain::write_line(*n, &mut buffer), t.len());
         assert_eq!(&buffer[..t.len()], &t[..]);
     }
     measure(rows, "reading step lines", "ns per byte", bytes, INPUTS, rounds, vec![
         ("library", Box::new(|i| timed(|| for t in &texts[i] { ffi::read_line(t, black_box(&mut [0; 32])); }))),
-        ("split and parse", Box::new(|i| timed(|| for t in &texts[i] { black_box(plain::read_line(t)); }))),
+        ("split and parse, no allocation", Box::new(|i| timed(|| for t in &texts[i] { black_box(plain::read_line(t)); }))),
+        ("split and parse into a list", Box::new(|i| timed(|| for t in &texts[i] { black_box(plain::read_line_into_list(t)); }))),
     ]);
     measure(rows, "writing step lines", "ns per byte", bytes, INPUTS, rounds, vec![
         ("library", Box::new(|i| timed(|| for n in &steps[i] { ffi::write_line(*n, black_box(&mut [0; 83])); }))),

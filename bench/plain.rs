@@ -167,16 +167,8 @@ fn number(text: &str) -> Option<u64> {
     text.parse().ok()
 }
 
-// Split and parse, with no allocation.
-pub fn read_line(line: &[u8]) -> Option<[u64; 4]> {
-    let text = std::str::from_utf8(line).ok()?;
-    let mut pairs = [("", ""); 5];
-    let mut n = 0;
-    for pair in text.split(' ').take(5) {
-        pairs[n] = pair.split_once('=')?;
-        n += 1;
-    }
-    match pairs[..n] {
+fn step_of(pairs: &[(&str, &str)]) -> Option<[u64; 4]> {
+    match *pairs {
         [("step", "add"), ("node", n), ("id", i)] => Some([1, number(n)?, 0, number(i)?]),
         [("step", "remove"), ("node", n), ("id", i)] => Some([2, number(n)?, 0, number(i)?]),
         [("step", "query"), ("node", n), ("id", i)] => Some([3, number(n)?, 0, number(i)?]),
@@ -187,6 +179,25 @@ pub fn read_line(line: &[u8]) -> Option<[u64; 4]> {
         [("step", "lose"), ("slot", s)] => Some([8, number(s)?, 0, 0]),
         _ => None,
     }
+}
+
+// Split and parse, the pairs in a fixed array.
+pub fn read_line(line: &[u8]) -> Option<[u64; 4]> {
+    let text = std::str::from_utf8(line).ok()?;
+    let mut pairs = [("", ""); 5];
+    let mut n = 0;
+    for pair in text.split(' ').take(5) {
+        pairs[n] = pair.split_once('=')?;
+        n += 1;
+    }
+    step_of(&pairs[..n])
+}
+
+// The same as most would write it, the pairs collected into a list.
+pub fn read_line_into_list(line: &[u8]) -> Option<[u64; 4]> {
+    let text = std::str::from_utf8(line).ok()?;
+    let pairs: Vec<(&str, &str)> = text.split(' ').map(|p| p.split_once('=')).collect::<Option<_>>()?;
+    step_of(&pairs)
 }
 
 pub fn write_line(n: [u64; 4], mut buffer: &mut [u8]) -> usize {
