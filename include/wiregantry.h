@@ -42,12 +42,15 @@ typedef char wg_needs_sizes_of_64_bits[sizeof(size_t) == 8 ? 1 : -1];
 #define WG_LINE_MAX 83u             /* bytes of the longest step line, without its line end */
 #define WG_AREA 32u                 /* bytes that wg_read_line fills */
 #define WG_INPUT_MAX 32768u         /* bytes of input that wg_report runs */
-#define WG_REPORT_MAX 720896u       /* no report is longer; the longest has 709,879 bytes (32,768 empty lines) */
+#define WG_REPORT_MAX 721152u       /* bytes of room that every report fits: WG_REPORT_ROOM(WG_INPUT_MAX) */
 #define WG_STACK 131072u            /* bytes of stack that no call exceeds */
 
 /* The words of a run, and the bytes that the answers on n ids take. */
 #define WG_WORDS(sites, capacity) ((size_t)(sites) * 2u * (size_t)(capacity))
 #define WG_ANSWERS(n) (((size_t)(n) + 7u) / 8u)
+
+/* The room that wg_report asks for n bytes of input: proved to hold every report of so many. */
+#define WG_REPORT_ROOM(n) ((size_t)(n) * 22u + 256u)
 
 /* ---- Kinds of step ------------------------------------------------------------------------------------------------------------------ */
 
@@ -86,7 +89,7 @@ typedef char wg_needs_sizes_of_64_bits[sizeof(size_t) == 8 ? 1 : -1];
 #define WG_NO_SLOT 9u         /* send or again with no free slot */
 #define WG_COUNT_FULL 10u     /* the counter to be raised is at its largest */
 #define WG_NO_STEP 11u        /* the text is not a step line, or the numbers are not a step */
-#define WG_INPUT_LONG 12u     /* the report's input is longer than WG_INPUT_MAX; it stands in the report's text only */
+#define WG_INPUT_LONG 12u     /* the report's input is longer than WG_INPUT_MAX */
 #define WG_SHORT_BUFFER 13u   /* a buffer to be written is too short */
 #define WG_MANY_IDS 14u       /* bulk membership asked for more than WG_MEMBERS_MAX ids */
 
@@ -188,8 +191,8 @@ size_t wg_write_line(uint64_t kind, uint64_t first, uint64_t second, uint64_t id
  * number of entries in its table. *written is how many bytes that is; bytes behind it keep what they had.
  *
  * A line that is no step line, an empty one, and a last piece without its byte 10 stand in the report as refused with 11.
- * An input over 32,768 bytes is accepted too: its whole report is the line `refused=12`.
- * Refuses with 13 exactly when room is less than the report's own length; *written is then 0. WG_REPORT_MAX bytes are always enough. */
+ * Refuses in this order: 12 exactly when n is above 32,768; 13 exactly when room is below WG_REPORT_ROOM(n). Nothing is written then, and
+ * *written is 0. */
 uint32_t wg_report(const uint8_t *input, size_t n, uint8_t *out, size_t room, size_t *written);
 
 /* ---- In short, over the calls above ------------------------------------------------------------------------------------------------- */

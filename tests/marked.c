@@ -146,10 +146,12 @@ static void reports(void) {
     size_t written = 1;
     memcpy(input, sample, sizeof sample - 1);
     same_report("the sample report", sizeof sample - 1, sample_report);
-    same("a byte short", wg_report(input, sizeof sample - 1, out, sizeof sample_report - 2, &written), 13);
+    same("a byte short", wg_report(input, sizeof sample - 1, out, WG_REPORT_ROOM(sizeof sample - 1) - 1, &written), 13);
     same("a byte short", written, 0);
     memset(input, 10, sizeof input);
-    same_report("32,769 bytes", WG_INPUT_MAX + 1, "refused=12\n");
+    written = 1;
+    same("32,769 bytes", wg_report(input, WG_INPUT_MAX + 1, out, sizeof out, &written), 12);
+    same("32,769 bytes", written, 0);
     same("32,768 empty lines", wg_report(input, WG_INPUT_MAX, out, sizeof out, &written), 0);
     same("32,768 empty lines", written, 709879);
 }

@@ -401,11 +401,9 @@ static void run_text(const uint8_t *input, size_t n) {
 uint32_t model_report(const uint8_t *input, size_t n, uint8_t *out, size_t room, size_t *written) {
     *written = 0;
     said = 0;
-    if (n > 32768)
-        SAY("refused=12\n");
-    else
-        run_text(input, n);
-    if (said > room) return 13;
+    if (n > 32768) return 12;
+    if (room < 22 * n + 256) return 13;
+    run_text(input, n);
     memcpy(out, report, said);
     *written = said;
     return 0;
