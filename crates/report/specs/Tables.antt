@@ -1,0 +1,13 @@
+-- The words of a report's run: as many as it has, and each table sound.
+-- Assumes nothing.
+use Prim.Native.Nat.{ℕ, _<_}
+use mathlib.Core.Path.{_≡_}
+use mathlib.Core.List.{List}
+use lib.ListN.{length}
+use Rattle.rules.specs.Table.{SoundTable}
+use Rattle.rules.specs.Runs.{tableAt}
+use Rattle.rules.specs.Reports.{reportRun}
+
+pub record ThreeTables (ws : List ℕ) : Type 0 where
+  pub count : length ws ≡ 48
+  pub sound : (k : ℕ) → k < 3 → SoundTable (tableAt reportRun ws k)

@@ -1,0 +1,74 @@
+// What stands at the end of every report: the ledger and the sites.
+use crate::pieces::write_count;
+use crate::pieces::write_pair;
+use kept::Kept;
+use parcels::is_free;
+use rules::Ledger;
+use rules::Parcel;
+use table::held;
+ghost use Prim.Native.Nat.{_+_, _≤_};
+ghost use mathlib.Core.Path.{_≡_};
+ghost use lib.ListN.{length};
+ghost use Rattle.rules.specs.Parcels.{waiting};
+ghost use Rattle.rules.specs.RunLaws.{StateSound};
+ghost use Rattle.rules.specs.Reports.{reportRun, ledgerLines, siteLine, siteLines, endLines};
+ghost use Rattle.kept.specs.Kept.{keptState};
+ghost use Rattle.report.specs.Laid.{Laid};
+ghost use Rattle.report.specs.Tables.{ThreeTables};
+
+// "Waiting is not stored: it is the number of occupied slots"
+fn count_waiting(slots: [Parcel; 8]) -> u64
+    ensures { λ r. ⌜ r ≡ waiting slots ⌝ }
+{
+    let mut n: u64 = 0;
+    let mut i: usize = 0;
+    while i < 8 {
+        let parcel = slots[i];
+        if !is_free(parcel) {
+            n += 1;
+        }
+        i += 1;
+    }
+    n
+}
+
+// "then the ledger"
+fn write_ledger(out: &mut [u8], place: usize, ledger: Ledger, waiting: u64) -> usize
+    requires { ⌜ place + length (ledgerLines ledger waiting) ≤ length (now out) ⌝ }
+    ensures { λ r. ⌜ Laid (now (out .entry)) place (ledgerLines ledger waiting) r (now (out .exit)) ⌝ }
+{
+    let a = write_count(out, place, b"sent=", ledger.sent);
+    let b = write_count(out, a, b"copied=", ledger.copied);
+    let d = write_count(out, b, b"absorbed=", ledger.absorbed);
+    let e = write_count(out, d, b"lost=", ledger.lost);
+    write_count(out, e, b"waiting=", waiting)
+}
+
+// "for each site `shown`: the number of entries in its table"
+fn write_sites(out: &mut [u8], place: usize, words: &[u64]) -> usize
+    requires { ⌜ ThreeTables (now words) ⌝ }
+    requires { ⌜ place + length (siteLines 3 0 (now words)) ≤ length (now out) ⌝ }
+    ensures { λ r. ⌜ Laid (now (out .entry)) place (siteLines 3 0 (now (words .entry))) r (now (out .exit)) ⌝ }
+{
+    let mut next = place;
+    let mut k: usize = 0;
+    while k < 3 {
+        let entries = held(&words[k * 16..k * 16 + 16]);
+        next = write_pair(out, next, b"node=", k as u64);
+        next = write_count(out, next, b" shown=", entries as u64);
+        k += 1;
+    }
+    next
+}
+
+pub(crate) fn write_ending(out: &mut [u8], place: usize, kept: Kept) -> usize
+    requires { ⌜ StateSound reportRun (keptState kept) ⌝ }
+    requires { ⌜ place + length (endLines (keptState kept)) ≤ length (now out) ⌝ }
+    ensures { λ r. ⌜ Laid (now (out .entry)) place (endLines (keptState kept)) r (now (out .exit)) ⌝ }
+{
+    let slots = kept.slots;
+    let ledger = kept.ledger;
+    let words = kept.words;
+    let next = write_ledger(out, place, ledger, count_waiting(slots));
+    write_sites(out, next, &words)
+}

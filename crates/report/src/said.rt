@@ -1,0 +1,44 @@
+// What one line of the input adds to the report.
+use crate::pieces::write_count;
+use crate::pieces::write_pair;
+use rules::Answer;
+use rules::Step;
+ghost use Prim.Native.Nat.{_+_, _≤_};
+ghost use lib.ListN.{length};
+ghost use Rattle.rules.specs.Reports.{refusedLine, queryLine, lineBy};
+ghost use Rattle.report.specs.Laid.{Laid};
+
+// "a line for each refused step (input line counted from 1, number)"
+pub(crate) fn write_refused(out: &mut [u8], place: usize, line: u64, refusal: u64) -> usize
+    requires { ⌜ place + length (refusedLine line refusal) ≤ length (now out) ⌝ }
+    ensures { λ r. ⌜ Laid (now (out .entry)) place (refusedLine line refusal) r (now (out .exit)) ⌝ }
+{
+    let a = write_pair(out, place, b"line=", line);
+    write_count(out, a, b" refused=", refusal)
+}
+
+// "and each accepted query (line, site, id, length, 1 if listed else 0)"
+fn write_query(out: &mut [u8], place: usize, line: u64, site: u64, id: u64, held: u64) -> usize
+    requires { ⌜ place + length (queryLine line site id held) ≤ length (now out) ⌝ }
+    ensures { λ r. ⌜ Laid (now (out .entry)) place (queryLine line site id held) r (now (out .exit)) ⌝ }
+{
+    let a = write_pair(out, place, b"line=", line);
+    let b = write_pair(out, a, b" node=", site);
+    let d = write_pair(out, b, b" id=", id);
+    let e = write_pair(out, d, b" length=", held);
+    write_count(out, e, b" present=", held % 2)
+}
+
+// The line of a refused step or of an accepted query; every other step says nothing.
+pub(crate) fn write_said(out: &mut [u8], place: usize, line: u64, step: Step, answer: Answer) -> usize
+    requires { ⌜ place + length (lineBy (answer .refusal) line step (answer .value)) ≤ length (now out) ⌝ }
+    ensures { λ r. ⌜ Laid (now (out .entry)) place (lineBy (answer .refusal) line step (answer .value)) r (now (out .exit)) ⌝ }
+{
+    if answer.refusal != 0 {
+        return write_refused(out, place, line, answer.refusal as u64);
+    }
+    let Step::Query { site, id } = step else {
+        return place;
+    };
+    write_query(out, place, line, site, id, answer.value)
+}
