@@ -1,12 +1,12 @@
 -- What is left to be written: a text that, put at a place of the buffer, gives the buffer that is wanted, and ends where that is to end. A writer takes
 -- the text's first piece off; nothing is said of what stands there already.
 -- Assumes nothing.
-use Prim.Native.Nat.{ℕ, _+_, _≤_}
+use Prim.Native.Nat.{ℕ, suc, _+_, _≤_}
 use native.Mathlib.Omega.{arith}
 use mathlib.Core.Path.{_≡_, refl, sym, ap, _∙_}
-use mathlib.Core.List.{List, [], _++_}
-use lib.ListN.{length, length-append}
-use Rattle.rules.specs.Put.{put, put-nil, put-length, put-put}
+use mathlib.Core.List.{List, [], _∷_, _++_}
+use lib.ListN.{length, set, length-append}
+use Rattle.rules.specs.Put.{put, put-nil, put-length, put-put, put-cons}
 use Rattle.report.specs.Laid.{Laid}
 
 pub record Left (out : List ℕ) (place : ℕ) (text : List ℕ) (end : ℕ) (wanted : List ℕ) : Type 0 where
@@ -32,18 +32,37 @@ left-next {out} {place} {end} {wanted} {next} {after} a b l w =
       room = rw (w .bytes, put-length out place a h) (l .room)
     }
 
--- nothing is left
-pub left-none : {out : List ℕ} {place : ℕ} {end : ℕ} {wanted : List ℕ} → Left out place [] end wanted → (place ≡ end) × (out ≡ wanted)
-left-none {out} {place} l = (omega (arith, l .behind), sym (put-nil out place) ∙ l .bytes)
-
--- the last piece, laid
-pub left-last : {out : List ℕ} {place : ℕ} {end : ℕ} {wanted : List ℕ} {next : ℕ} {after : List ℕ} (a : List ℕ) → Left out place a end wanted → Laid out place a next after → (next ≡ end) × (after ≡ wanted)
-left-last a l w = (w .behind ∙ l .behind, w .bytes ∙ l .bytes)
+-- there is room for all of it
+pub left-fits : {out : List ℕ} {place : ℕ} {text : List ℕ} {end : ℕ} {wanted : List ℕ} → Left out place text end wanted → place + length text ≤ length out
+left-fits l = omega (arith, l .behind, l .room)
 
 -- the same text in other words
-pub left-as : {out : List ℕ} {place : ℕ} {a : List ℕ} {end : ℕ} {wanted : List ℕ} (b : List ℕ) → a ≡ b → Left out place a end wanted → Left out place b end wanted
-left-as b e l = rw (← e) l
+pub left-as : {out : List ℕ} {place : ℕ} {a b : List ℕ} {end : ℕ} {wanted : List ℕ} → a ≡ b → Left out place a end wanted → Left out place b end wanted
+left-as e l = rw (← e) l
 
--- from nothing but its text: what a writer of more pieces ensures
+-- ---- what a writer owes, once the last piece is laid
+pub laid-last : {out before : List ℕ} {place start next : ℕ} {text after a : List ℕ} → Left out place a (start + length text) (put before start text) → Laid out place a next after → Laid before start text next after
+laid-last l w = record { behind = w .behind ∙ l .behind; bytes = w .bytes ∙ l .bytes }
+
+-- or where nothing is left
+pub laid-none : {out before : List ℕ} {place start : ℕ} {text : List ℕ} → Left out place [] (start + length text) (put before start text) → Laid before start text place out
+laid-none {out} {before} {place} {start} {text} l = record { behind = omega (arith, l .behind); bytes = sym (put-nil out place) ∙ l .bytes }
+
+-- ---- what is laid and what there is room for, in other words
+pub laid-as : {out : List ℕ} {place next : ℕ} {a b after : List ℕ} → a ≡ b → Laid out place a next after → Laid out place b next after
+laid-as e w = rw (← e) w
+
+pub room-as : {place : ℕ} {out a b : List ℕ} → a ≡ b → place + length a ≤ length out → place + length b ≤ length out
+room-as e h = rw (← e) h
+
+-- a writer of the crate `lines` says the same in two parts
 pub laid-by : {out : List ℕ} {place : ℕ} {text : List ℕ} {next : ℕ} {after : List ℕ} → (next ≡ place + length text) × (after ≡ put out place text) → Laid out place text next after
 laid-by p = record { behind = p .0; bytes = p .1 }
+
+-- a text of no bytes needs no writer
+pub laid-nothing : {out : List ℕ} {place : ℕ} {text : List ℕ} → text ≡ [] → Laid out place text place out
+laid-nothing {out} {place} e = rw e (record { behind = omega arith; bytes = sym (put-nil out place) })
+
+-- one byte stored
+pub laid-byte : (out : List ℕ) (place b : ℕ) → place + 1 ≤ length out → Laid out place (b ∷ []) (place + 1) (set out place b)
+laid-byte out place b h = record { behind = refl; bytes = sym (put-nil (set out place b) (suc place)) ∙ put-cons out place b [] (omega arith) }

@@ -1,27 +1,27 @@
-use native.Mathlib.Omega.{arith}
+-- `report::pieces::write_count`: a pair, and the line's end. Assumes nothing.
+use mathlib.Core.List.{[], _∷_}
+use denote.Ref.{now}
+use Rattle.rules.specs.Reports.{lineEnd, countLine}
+use Rattle.report.proofs.Left.{left-all, left-room, left-next, left-fits, left-as, laid-last}
+use Rattle.report.proofs.Words.{pair, count-pieces}
 use borrow.Author.Needs.{needs}
 use Rattle.report.proofs.pieces.write_count.Statement.{statement}
 use Rattle.report.proofs.pieces.write_count.Tie as tie
-use Rattle.report.proofs.pieces.write_count.Reads as reads
-use Rattle.report.proofs.pieces.write_count.Lts as lts
-use Rattle.report.proofs.pieces.write_end.Reads as write-end-reads
-use Rattle.report.proofs.pieces.write_pair.Reads as write-pair-reads
 
--- src/pieces.rt:33:9
 write-pair-requires : tie.Need-write-pair-requires
-write-pair-requires c κs = search needs
+write-pair-requires c κs = let s = c .before .before .before .args in
+    left-room (pair (now (s .name)) (s .n)) (lineEnd ∷ []) (left-as (count-pieces (now (s .name)) (s .n)) (left-all (now (s .out)) (s .place) (countLine (now (s .name)) (s .n)) (c .before .before .before .pre)))
 
--- src/pieces.rt:34:5
 write-end-requires : tie.Need-write-end-requires
-write-end-requires c κs = search needs
+write-end-requires c κs = let s = c .before .before .before .before .before .before .before .args in
+    left-fits (left-next (pair (now (s .name)) (s .n)) (lineEnd ∷ []) (left-as (count-pieces (now (s .name)) (s .n)) (left-all (now (s .out)) (s .place) (countLine (now (s .name)) (s .n)) (c .before .before .before .before .before .before .before .pre))) (c .before .before .before .write-pair .ensures))
 
--- src/pieces.rt:29:1
 same-length : tie.Need-same-length
 same-length c = search needs
 
--- src/pieces.rt:29:1
 returns : tie.Need-returns
-returns c = search needs
+returns c = let s = c .before .before .before .before .before .before .before .before .before .before .args in
+    laid-last (left-next (pair (now (s .name)) (s .n)) (lineEnd ∷ []) (left-as (count-pieces (now (s .name)) (s .n)) (left-all (now (s .out)) (s .place) (countLine (now (s .name)) (s .n)) (c .before .before .before .before .before .before .before .before .before .before .pre))) (c .before .before .before .before .before .before .write-pair .ensures)) (c .before .before .write-end .ensures)
 
 pub write-count-spec : {M : Type 1} → statement M
 write-count-spec = tie.close (tie.spec write-pair-requires write-end-requires same-length returns)

@@ -1,27 +1,26 @@
-use native.Mathlib.Omega.{arith}
+-- `report::pieces::write_pair`: the name, and the digits behind it. Assumes nothing.
+use mathlib.Core.List.{_++_}
+use denote.Ref.{now}
+use Rattle.rules.specs.Number.{digits}
+use Rattle.report.proofs.Left.{Left, left-all, left-room, left-next, left-fits, laid-last, laid-by}
 use borrow.Author.Needs.{needs}
 use Rattle.report.proofs.pieces.write_pair.Statement.{statement}
 use Rattle.report.proofs.pieces.write_pair.Tie as tie
-use Rattle.report.proofs.pieces.write_pair.Reads as reads
-use Rattle.report.proofs.pieces.write_pair.Lts as lts
-use Rattle.lines.proofs.write_number.Reads as write-number-reads
-use Rattle.lines.proofs.write_text.Reads as write-text-reads
 
--- src/pieces.rt:16:9
 write-text-requires : tie.Need-write-text-requires
-write-text-requires c κs = search needs
+write-text-requires c κs = let s = c .before .before .before .args in
+    left-room (now (s .name)) (digits (s .n)) (left-all (now (s .out)) (s .place) (now (s .name) ++ digits (s .n)) (c .before .before .before .pre))
 
--- src/pieces.rt:17:5
 write-number-requires : tie.Need-write-number-requires
-write-number-requires c κs = search needs
+write-number-requires c κs = let s = c .before .before .before .before .before .before .before .args in
+    left-fits (left-next (now (s .name)) (digits (s .n)) (left-all (now (s .out)) (s .place) (now (s .name) ++ digits (s .n)) (c .before .before .before .before .before .before .before .pre)) (laid-by (c .before .before .before .write-text .ensures)))
 
--- src/pieces.rt:12:1
 same-length : tie.Need-same-length
 same-length c = search needs
 
--- src/pieces.rt:12:1
 returns : tie.Need-returns
-returns c = search needs
+returns c = let s = c .before .before .before .before .before .before .before .before .before .before .args in
+    laid-last (left-next (now (s .name)) (digits (s .n)) (left-all (now (s .out)) (s .place) (now (s .name) ++ digits (s .n)) (c .before .before .before .before .before .before .before .before .before .before .pre)) (laid-by (c .before .before .before .before .before .before .write-text .ensures))) (laid-by (c .before .before .write-number .ensures))
 
 pub write-pair-spec : {M : Type 1} → statement M
 write-pair-spec =

@@ -1,59 +1,56 @@
-use native.Mathlib.Omega.{arith}
+-- `report::said::write_query`: four pairs, and the last pair. Assumes nothing.
+use Prim.Native.Nat.{_%_}
+use mathlib.Core.List.{_++_}
+use denote.Ref.{now}
+use Rattle.rules.specs.Text.{ascii}
+use Rattle.rules.specs.Reports.{queryLine, countLine}
+use Rattle.report.proofs.Left.{left-all, left-room, left-next, left-fits, left-as, laid-last}
+use Rattle.report.proofs.Words.{pair, query-pieces}
 use borrow.Author.Needs.{needs}
 use Rattle.report.proofs.said.write_query.Statement.{statement}
 use Rattle.report.proofs.said.write_query.Tie as tie
-use Rattle.report.proofs.said.write_query.Reads as reads
-use Rattle.report.proofs.said.write_query.Lts as lts
-use Rattle.report.proofs.pieces.write_count.Reads as write-count-reads
-use Rattle.report.proofs.pieces.write_pair.Reads as write-pair-reads
 
--- src/said.rt:25:36
 slice-aggregate-write-pair : tie.Need-slice-aggregate-write-pair
 slice-aggregate-write-pair c = search needs
 
--- src/said.rt:25:9
 write-pair-requires : tie.Need-write-pair-requires
-write-pair-requires c κs = search needs
+write-pair-requires c κs = let s = c .before .before .before .args in
+    left-room (pair (ascii "line=") (s .line)) ((pair (ascii " node=") (s .site)) ++ ((pair (ascii " id=") (s .id)) ++ ((pair (ascii " length=") (s .held)) ++ (countLine (ascii " present=") (s .held % 2))))) (left-as (query-pieces (s .line) (s .site) (s .id) (s .held)) (left-all (now (s .out)) (s .place) (queryLine (s .line) (s .site) (s .id) (s .held)) (c .before .before .before .pre)))
 
--- src/said.rt:26:32
 slice-aggregate-write-pair-2 : tie.Need-slice-aggregate-write-pair-2
 slice-aggregate-write-pair-2 c = search needs
 
--- src/said.rt:26:9
 write-pair-requires-2 : tie.Need-write-pair-requires-2
-write-pair-requires-2 c κs = search needs
+write-pair-requires-2 c κs = let s = c .before .before .before .before .before .before .before .before .args in
+    left-room (pair (ascii " node=") (s .site)) ((pair (ascii " id=") (s .id)) ++ ((pair (ascii " length=") (s .held)) ++ (countLine (ascii " present=") (s .held % 2)))) (left-next (pair (ascii "line=") (s .line)) ((pair (ascii " node=") (s .site)) ++ ((pair (ascii " id=") (s .id)) ++ ((pair (ascii " length=") (s .held)) ++ (countLine (ascii " present=") (s .held % 2))))) (left-as (query-pieces (s .line) (s .site) (s .id) (s .held)) (left-all (now (s .out)) (s .place) (queryLine (s .line) (s .site) (s .id) (s .held)) (c .before .before .before .before .before .before .before .before .pre))) (c .before .before .before .before .write-pair .ensures))
 
--- src/said.rt:27:32
 slice-aggregate-write-pair-3 : tie.Need-slice-aggregate-write-pair-3
 slice-aggregate-write-pair-3 c = search needs
 
--- src/said.rt:27:9
 write-pair-requires-3 : tie.Need-write-pair-requires-3
-write-pair-requires-3 c κs = search needs
+write-pair-requires-3 c κs = let s = c .before .before .before .before .before .before .before .before .before .before .before .before .before .args in
+    left-room (pair (ascii " id=") (s .id)) ((pair (ascii " length=") (s .held)) ++ (countLine (ascii " present=") (s .held % 2))) (left-next (pair (ascii " node=") (s .site)) ((pair (ascii " id=") (s .id)) ++ ((pair (ascii " length=") (s .held)) ++ (countLine (ascii " present=") (s .held % 2)))) (left-next (pair (ascii "line=") (s .line)) ((pair (ascii " node=") (s .site)) ++ ((pair (ascii " id=") (s .id)) ++ ((pair (ascii " length=") (s .held)) ++ (countLine (ascii " present=") (s .held % 2))))) (left-as (query-pieces (s .line) (s .site) (s .id) (s .held)) (left-all (now (s .out)) (s .place) (queryLine (s .line) (s .site) (s .id) (s .held)) (c .before .before .before .before .before .before .before .before .before .before .before .before .before .pre))) (c .before .before .before .before .before .before .before .before .before .write-pair .ensures)) (c .before .before .before .before .write-pair2 .ensures))
 
--- src/said.rt:28:32
 slice-aggregate-write-pair-4 : tie.Need-slice-aggregate-write-pair-4
 slice-aggregate-write-pair-4 c = search needs
 
--- src/said.rt:28:9
 write-pair-requires-4 : tie.Need-write-pair-requires-4
-write-pair-requires-4 c κs = search needs
+write-pair-requires-4 c κs = let s = c .before .before .before .before .before .before .before .before .before .before .before .before .before .before .before .before .before .before .args in
+    left-room (pair (ascii " length=") (s .held)) (countLine (ascii " present=") (s .held % 2)) (left-next (pair (ascii " id=") (s .id)) ((pair (ascii " length=") (s .held)) ++ (countLine (ascii " present=") (s .held % 2))) (left-next (pair (ascii " node=") (s .site)) ((pair (ascii " id=") (s .id)) ++ ((pair (ascii " length=") (s .held)) ++ (countLine (ascii " present=") (s .held % 2)))) (left-next (pair (ascii "line=") (s .line)) ((pair (ascii " node=") (s .site)) ++ ((pair (ascii " id=") (s .id)) ++ ((pair (ascii " length=") (s .held)) ++ (countLine (ascii " present=") (s .held % 2))))) (left-as (query-pieces (s .line) (s .site) (s .id) (s .held)) (left-all (now (s .out)) (s .place) (queryLine (s .line) (s .site) (s .id) (s .held)) (c .before .before .before .before .before .before .before .before .before .before .before .before .before .before .before .before .before .before .pre))) (c .before .before .before .before .before .before .before .before .before .before .before .before .before .before .write-pair .ensures)) (c .before .before .before .before .before .before .before .before .before .write-pair2 .ensures)) (c .before .before .before .before .write-pair3 .ensures))
 
--- src/said.rt:29:25
 slice-aggregate-write-count : tie.Need-slice-aggregate-write-count
 slice-aggregate-write-count c = search needs
 
--- src/said.rt:29:5
 write-count-requires : tie.Need-write-count-requires
-write-count-requires c κs = search needs
+write-count-requires c κs = let s = c .before .before .before .before .before .before .before .before .before .before .before .before .before .before .before .before .before .before .before .before .before .before .before .args in
+    left-fits (left-next (pair (ascii " length=") (s .held)) (countLine (ascii " present=") (s .held % 2)) (left-next (pair (ascii " id=") (s .id)) ((pair (ascii " length=") (s .held)) ++ (countLine (ascii " present=") (s .held % 2))) (left-next (pair (ascii " node=") (s .site)) ((pair (ascii " id=") (s .id)) ++ ((pair (ascii " length=") (s .held)) ++ (countLine (ascii " present=") (s .held % 2)))) (left-next (pair (ascii "line=") (s .line)) ((pair (ascii " node=") (s .site)) ++ ((pair (ascii " id=") (s .id)) ++ ((pair (ascii " length=") (s .held)) ++ (countLine (ascii " present=") (s .held % 2))))) (left-as (query-pieces (s .line) (s .site) (s .id) (s .held)) (left-all (now (s .out)) (s .place) (queryLine (s .line) (s .site) (s .id) (s .held)) (c .before .before .before .before .before .before .before .before .before .before .before .before .before .before .before .before .before .before .before .before .before .before .before .pre))) (c .before .before .before .before .before .before .before .before .before .before .before .before .before .before .before .before .before .before .before .write-pair .ensures)) (c .before .before .before .before .before .before .before .before .before .before .before .before .before .before .write-pair2 .ensures)) (c .before .before .before .before .before .before .before .before .before .write-pair3 .ensures)) (c .before .before .before .before .write-pair4 .ensures))
 
--- src/said.rt:21:1
 same-length : tie.Need-same-length
 same-length c = search needs
 
--- src/said.rt:21:1
 returns : tie.Need-returns
-returns c = search needs
+returns c = let s = c .before .before .before .before .before .before .before .before .before .before .before .before .before .before .before .before .before .before .before .before .before .before .before .before .before .before .args in
+    laid-last (left-next (pair (ascii " length=") (s .held)) (countLine (ascii " present=") (s .held % 2)) (left-next (pair (ascii " id=") (s .id)) ((pair (ascii " length=") (s .held)) ++ (countLine (ascii " present=") (s .held % 2))) (left-next (pair (ascii " node=") (s .site)) ((pair (ascii " id=") (s .id)) ++ ((pair (ascii " length=") (s .held)) ++ (countLine (ascii " present=") (s .held % 2)))) (left-next (pair (ascii "line=") (s .line)) ((pair (ascii " node=") (s .site)) ++ ((pair (ascii " id=") (s .id)) ++ ((pair (ascii " length=") (s .held)) ++ (countLine (ascii " present=") (s .held % 2))))) (left-as (query-pieces (s .line) (s .site) (s .id) (s .held)) (left-all (now (s .out)) (s .place) (queryLine (s .line) (s .site) (s .id) (s .held)) (c .before .before .before .before .before .before .before .before .before .before .before .before .before .before .before .before .before .before .before .before .before .before .before .before .before .before .pre))) (c .before .before .before .before .before .before .before .before .before .before .before .before .before .before .before .before .before .before .before .before .before .before .write-pair .ensures)) (c .before .before .before .before .before .before .before .before .before .before .before .before .before .before .before .before .before .write-pair2 .ensures)) (c .before .before .before .before .before .before .before .before .before .before .before .before .write-pair3 .ensures)) (c .before .before .before .before .before .before .before .write-pair4 .ensures)) (c .before .before .write-count .ensures)
 
 pub write-query-spec : {M : Type 1} → statement M
 write-query-spec =

@@ -1,35 +1,33 @@
-use native.Mathlib.Omega.{arith}
+-- `report::said::write_refused`: a pair, and the last pair. Assumes nothing.
+use denote.Ref.{now}
+use Rattle.rules.specs.Text.{ascii}
+use Rattle.rules.specs.Reports.{refusedLine, countLine}
+use Rattle.report.proofs.Left.{left-all, left-room, left-next, left-fits, left-as, laid-last}
+use Rattle.report.proofs.Words.{pair, refused-pieces}
 use borrow.Author.Needs.{needs}
 use Rattle.report.proofs.said.write_refused.Statement.{statement}
 use Rattle.report.proofs.said.write_refused.Tie as tie
-use Rattle.report.proofs.said.write_refused.Reads as reads
-use Rattle.report.proofs.said.write_refused.Lts as lts
-use Rattle.report.proofs.pieces.write_count.Reads as write-count-reads
-use Rattle.report.proofs.pieces.write_pair.Reads as write-pair-reads
 
--- src/said.rt:16:36
 slice-aggregate-write-pair : tie.Need-slice-aggregate-write-pair
 slice-aggregate-write-pair c = search needs
 
--- src/said.rt:16:9
 write-pair-requires : tie.Need-write-pair-requires
-write-pair-requires c κs = search needs
+write-pair-requires c κs = let s = c .before .before .before .args in
+    left-room (pair (ascii "line=") (s .line)) (countLine (ascii " refused=") (s .refusal)) (left-as (refused-pieces (s .line) (s .refusal)) (left-all (now (s .out)) (s .place) (refusedLine (s .line) (s .refusal)) (c .before .before .before .pre)))
 
--- src/said.rt:17:25
 slice-aggregate-write-count : tie.Need-slice-aggregate-write-count
 slice-aggregate-write-count c = search needs
 
--- src/said.rt:17:5
 write-count-requires : tie.Need-write-count-requires
-write-count-requires c κs = search needs
+write-count-requires c κs = let s = c .before .before .before .before .before .before .before .before .args in
+    left-fits (left-next (pair (ascii "line=") (s .line)) (countLine (ascii " refused=") (s .refusal)) (left-as (refused-pieces (s .line) (s .refusal)) (left-all (now (s .out)) (s .place) (refusedLine (s .line) (s .refusal)) (c .before .before .before .before .before .before .before .before .pre))) (c .before .before .before .before .write-pair .ensures))
 
--- src/said.rt:12:1
 same-length : tie.Need-same-length
 same-length c = search needs
 
--- src/said.rt:12:1
 returns : tie.Need-returns
-returns c = search needs
+returns c = let s = c .before .before .before .before .before .before .before .before .before .before .before .args in
+    laid-last (left-next (pair (ascii "line=") (s .line)) (countLine (ascii " refused=") (s .refusal)) (left-as (refused-pieces (s .line) (s .refusal)) (left-all (now (s .out)) (s .place) (refusedLine (s .line) (s .refusal)) (c .before .before .before .before .before .before .before .before .before .before .before .pre))) (c .before .before .before .before .before .before .before .write-pair .ensures)) (c .before .before .write-count .ensures)
 
 pub write-refused-spec : {M : Type 1} → statement M
 write-refused-spec =

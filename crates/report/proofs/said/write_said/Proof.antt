@@ -1,47 +1,42 @@
-use native.Mathlib.Omega.{arith}
+-- `report::said::write_said`: a refusal, a query, or nothing. Assumes nothing.
+use mathlib.Core.Path.{_≡_, sym}
+use Rattle.report.proofs.Left.{room-as, laid-as, laid-nothing}
+use Rattle.report.proofs.Words.{refused-by, asked-by, silent-by}
 use borrow.Author.Needs.{needs}
 use Rattle.report.proofs.said.write_said.Statement.{statement}
 use Rattle.report.proofs.said.write_said.Tie as tie
-use Rattle.report.proofs.said.write_said.Reads as reads
-use Rattle.report.proofs.said.write_said.Lts as lts
-use Rattle.report.proofs.said.write_query.Reads as write-query-reads
-use Rattle.report.proofs.said.write_refused.Reads as write-refused-reads
 
--- src/said.rt:38:48
 cast-write-refused : tie.Need-cast-write-refused
 cast-write-refused c = search needs
 
--- src/said.rt:38:9
 write-refused-requires : tie.Need-write-refused-requires
-write-refused-requires c κs = search needs
+write-refused-requires c κs = let s = c .before .before .before .before .before .args in
+    room-as (refused-by (s .answer .refusal) (s .line) (s .step) (s .answer .value) (c .before .before .if1 .taken)) (c .before .before .before .before .before .pre)
 
--- src/said.rt:38:9
 same-length : tie.Need-same-length
 same-length c = search needs
 
--- src/said.rt:38:9
 returns : tie.Need-returns
-returns c = search needs
+returns c = let s = c .before .before .before .before .before .before .before .before .args in
+    laid-as (sym (refused-by (s .answer .refusal) (s .line) (s .step) (s .answer .value) (c .before .before .before .before .before .if1 .taken))) (c .before .before .write-refused .ensures)
 
--- src/said.rt:40:23
 enum-known-step : tie.Need-enum-known-step
 enum-known-step c = search needs
 
--- src/said.rt:41:9
 returns-2 : tie.Need-returns-2
-returns-2 c = search needs
+returns-2 c = let s = c .before .before .before .before .args in
+    laid-nothing (silent-by (s .answer .refusal) (s .line) (s .step) (s .answer .value) (c .before .if1 .left) (c .match .keys2))
 
--- src/said.rt:43:5
 write-query-requires : tie.Need-write-query-requires
-write-query-requires c κs = search needs
+write-query-requires c κs = let s = c .before .before .before .before .before .before .before .args in
+    room-as (asked-by (s .answer .refusal) (s .line) (s .step) _ _ (s .answer .value) (c .before .before .before .before .if1 .left) (c .before .before .step .given .1)) (c .before .before .before .before .before .before .before .pre)
 
--- src/said.rt:33:1
 same-length-2 : tie.Need-same-length-2
 same-length-2 c = search needs
 
--- src/said.rt:33:1
 returns-3 : tie.Need-returns-3
-returns-3 c = search needs
+returns-3 c = let s = c .before .before .before .before .before .before .before .before .before .before .args in
+    laid-as (sym (asked-by (s .answer .refusal) (s .line) (s .step) _ _ (s .answer .value) (c .before .before .before .before .before .before .before .if1 .left) (c .before .before .before .before .before .step .given .1))) (c .before .before .write-query .ensures)
 
 pub write-said-spec : {M : Type 1} → statement M
 write-said-spec =

@@ -1,0 +1,106 @@
+-- The lines of a report by the pieces in which they are written.
+-- Assumes nothing.
+use Prim.Native.Nat.{ℕ, zero, suc, _+_, _%_}
+use native.Mathlib.Omega.{arith}
+use mathlib.Core.Path.{_≡_, refl, sym, ap, _∙_}
+use mathlib.Core.Bool.{cond}
+use mathlib.Core.List.{List, [], _∷_, _++_, append-assoc}
+use lib.Dec.{eqb}
+use borrow.Author.Tests.{eqb-true, eqb-false}
+use types.Run.{OneOf, miss}
+use denote.Enum.Declared.{tagOf}
+use Rattle.rules.proofs.Step as Q
+use Rattle.rules.specs.declared.Ledger.{Ledger}
+use Rattle.rules.specs.declared.Answer.{Answer}
+use Rattle.rules.specs.declared.Step.{Step}
+use Rattle.rules.specs.declared.Step.the-variants.{Add, Remove, Query, Send, Merge, Deliver, Again, Lose}
+use Rattle.rules.specs.declared.Named.{Named}
+use Rattle.rules.specs.declared.Named.the-variants.{Is, NoStep}
+use Rattle.rules.specs.Lengths.{listed}
+use Rattle.rules.specs.Table.{held}
+use Rattle.rules.specs.Operations.{answer}
+use Rattle.rules.specs.Runs.{State, tableAt, refusalOf, valueOf, answerOf, after}
+use Rattle.rules.specs.Text.{ascii}
+use Rattle.rules.specs.Number.{digits}
+use Rattle.rules.specs.NumberLaws.{by-test}
+use Rattle.rules.specs.Reports.{reportRun, lineEnd, refusedLine, queryLine, countLine, ledgerLines, siteLine, acceptedLine, lineBy, saidOf, stateOf}
+
+-- a name and a number
+abbrev pub pair : List ℕ → ℕ → List ℕ
+pair name n = name ++ digits n
+
+-- the last pair of a line
+pub count-pieces : (name : List ℕ) (n : ℕ) → countLine name n ≡ pair name n ++ (lineEnd ∷ [])
+count-pieces name n = sym (append-assoc name (digits n) (lineEnd ∷ []))
+
+pub refused-pieces : (n r : ℕ) → refusedLine n r ≡ pair (ascii "line=") n ++ countLine (ascii " refused=") r
+unfolding refusedLine
+refused-pieces n r = sym (append-assoc (ascii "line=") (digits n) _)
+
+-- 1 or 0 is what is left of the length by 2
+present : (m : ℕ) → cond (listed m) 1 0 ≡ m % 2
+unfolding listed
+present m =
+    by-test (eqb (m % 2) 1)
+    (λ y. rw y (let e : m % 2 ≡ 1 = eqb-true (m % 2) 1 y in sym e))
+    (λ n. rw n (let e : m % 2 ≡ 1 → ⊥ = eqb-false (m % 2) 1 n in omega arith))
+
+pub query-pieces : (n k e m : ℕ) → queryLine n k e m
+    ≡ pair (ascii "line=") n ++ (pair (ascii " node=") k ++ (pair (ascii " id=") e ++ (pair (ascii " length=") m ++ countLine (ascii " present=") (m % 2))))
+unfolding queryLine
+query-pieces n k e m = rw (present m) (simp append-assoc)
+
+pub ledger-pieces : (l : Ledger) (w : ℕ) → ledgerLines l w
+    ≡ countLine (ascii "sent=") (l .sent) ++ (countLine (ascii "copied=") (l .copied) ++ (countLine (ascii "absorbed=") (l .absorbed) ++ (countLine (ascii "lost=") (l .lost) ++ countLine (ascii "waiting=") w)))
+unfolding ledgerLines
+ledger-pieces l w = refl
+
+-- ---- what a line says, by the answer of its step
+pub refused-by : (r n : ℕ) (step : Step) (m : ℕ) → (r ≡ 0 → ⊥) → lineBy r n step m ≡ refusedLine n r
+refused-by zero n step m h = absurd (h refl)
+refused-by (suc r) n step m h = refl
+
+pub accepted-by : (r n : ℕ) (step : Step) (m : ℕ) → r ≡ 0 → lineBy r n step m ≡ acceptedLine n step m
+accepted-by zero n step m h = refl
+accepted-by (suc r) n step m h = absurd (omega arith)
+
+pub asked-by : (r n : ℕ) (step : Step) (k e m : ℕ) → r ≡ 0 → step ≡ Query k e → lineBy r n step m ≡ queryLine n k e m
+unfolding acceptedLine
+asked-by r n step k e m h q = accepted-by r n step m h ∙ ap (λ (x : Step). acceptedLine n x m) q
+
+-- every kind but the third says nothing
+not-query : (n : ℕ) (step : Step) (m : ℕ) → OneOf (0 ∷ 1 ∷ 3 ∷ 4 ∷ 5 ∷ 6 ∷ 7 ∷ []) (tagOf Q.the-type step) → acceptedLine n step m ≡ []
+unfolding acceptedLine
+not-query n (Add k e) m h = refl
+not-query n (Remove k e) m h = refl
+not-query n (Query k e) m h = absurd (miss (0 ∷ 1 ∷ 3 ∷ 4 ∷ 5 ∷ 6 ∷ 7 ∷ []) 2 tt h)
+not-query n (Send f t e) m h = refl
+not-query n (Merge f t) m h = refl
+not-query n (Deliver i) m h = refl
+not-query n (Again i) m h = refl
+not-query n (Lose i) m h = refl
+
+pub silent-by : (r n : ℕ) (step : Step) (m : ℕ) → r ≡ 0 → OneOf (0 ∷ 1 ∷ 3 ∷ 4 ∷ 5 ∷ 6 ∷ 7 ∷ []) (tagOf Q.the-type step) → lineBy r n step m ≡ []
+silent-by r n step m h o = accepted-by r n step m h ∙ not-query n step m o
+
+-- ---- a line, by what was read of it
+-- the value that a refused step has not got is not asked for
+line-answer : (r v n : ℕ) (step : Step) → lineBy (answer r v .refusal) n step (answer r v .value) ≡ lineBy r n step v
+line-answer zero v n step = refl
+line-answer (suc r) v n step = refl
+
+pub said-none : (n : ℕ) (s : State) (r : Named) → r ≡ NoStep → saidOf n s r ≡ refusedLine n 11
+unfolding saidOf
+said-none n s r e = rw e
+
+pub said-step : (n : ℕ) (s : State) (r : Named) (step : Step) (a : Answer) → r ≡ Is step → a ≡ answerOf reportRun s step → saidOf n s r ≡ lineBy (a .refusal) n step (a .value)
+unfolding saidOf
+said-step n s r step a e h = rw (e, h) (sym (line-answer (refusalOf reportRun s step) (valueOf reportRun s step) n step))
+
+pub state-none : (s : State) (r : Named) → r ≡ NoStep → s ≡ stateOf s r
+unfolding stateOf
+state-none s r e = rw e
+
+pub state-step : (s : State) (r : Named) (step : Step) → r ≡ Is step → after reportRun s step ≡ stateOf s r
+unfolding stateOf
+state-step s r step e = rw e
