@@ -1,2 +1,5 @@
+pub mod Answers
+pub mod Counted
 pub mod Left
+pub mod Passing
 pub mod Words

@@ -5,7 +5,7 @@ mod pieces;
 mod said;
 
 use crate::pass::write_report;
-use crate::pieces::write_count;
+use lines::write_text;
 use rules::Reported;
 ghost use Rattle.rules.specs.Reports.{Told, Printed};
 
@@ -41,7 +41,7 @@ pub fn printed(input: &[u8], out: &mut [u8]) -> usize
         return 0;
     }
     if input.len() > 32768 {
-        return write_count(out, 0, b"refused=", 12);
+        return write_text(out, 0, b"refused=12\n");
     }
     write_report(input, out)
 }

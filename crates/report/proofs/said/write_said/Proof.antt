@@ -1,5 +1,6 @@
 -- `report::said::write_said`: a refusal, a query, or nothing. Assumes nothing.
 use mathlib.Core.Path.{_≡_, sym}
+use denote.Ref.{now}
 use Rattle.report.proofs.Left.{room-as, laid-as, laid-nothing}
 use Rattle.report.proofs.Words.{refused-by, asked-by, silent-by}
 use borrow.Author.Needs.{needs}
@@ -11,7 +12,7 @@ cast-write-refused c = search needs
 
 write-refused-requires : tie.Need-write-refused-requires
 write-refused-requires c κs = let s = c .before .before .before .before .before .args in
-    room-as (refused-by (s .answer .refusal) (s .line) (s .step) (s .answer .value) (c .before .before .if1 .taken)) (c .before .before .before .before .before .pre)
+    room-as (s .place) (now (s .out)) (refused-by (s .answer .refusal) (s .line) (s .step) (s .answer .value) (c .before .before .if1 .taken)) (c .before .before .before .before .before .pre)
 
 same-length : tie.Need-same-length
 same-length c = search needs
@@ -29,7 +30,7 @@ returns-2 c = let s = c .before .before .before .before .args in
 
 write-query-requires : tie.Need-write-query-requires
 write-query-requires c κs = let s = c .before .before .before .before .before .before .before .args in
-    room-as (asked-by (s .answer .refusal) (s .line) (s .step) _ _ (s .answer .value) (c .before .before .before .before .if1 .left) (c .before .before .step .given .1)) (c .before .before .before .before .before .before .before .pre)
+    room-as (s .place) (now (s .out)) (asked-by (s .answer .refusal) (s .line) (s .step) _ _ (s .answer .value) (c .before .before .before .before .if1 .left) (c .before .before .step .given .1)) (c .before .before .before .before .before .before .before .pre)
 
 same-length-2 : tie.Need-same-length-2
 same-length-2 c = search needs

@@ -1,0 +1,79 @@
+-- What the end of a report counts: the slots that are not free, and the entries of each table.
+-- Assumes nothing.
+use Prim.Native.Nat.{ℕ, zero, suc, _+_, _*_, _-_, _≤_, _<_}
+use native.Mathlib.Omega.{arith}
+use native.Mathlib.Numerals.{add-one}
+use mathlib.Core.Path.{_≡_, refl, sym, ap, _∙_}
+use mathlib.Core.Bool.{Bool, true, false, not, cond}
+use mathlib.Core.List.{List, [], _∷_, _++_, append-assoc}
+use lib.ListN.{length, take, drop, getD}
+use lib.Seq.{drop-cons, drop-length}
+use borrow.Author.Tests.{not-true, not-false}
+use Rattle.rules.specs.declared.Parcel.{Parcel}
+use Rattle.rules.specs.Lengths.{M}
+use Rattle.rules.specs.Parcels.{isFree, noParcel, waiting}
+use Rattle.rules.specs.Table.{SoundTable, held}
+use Rattle.rules.specs.Runs.{State, width, tableAt}
+use Rattle.rules.specs.RunLaws.{StateSound}
+use Rattle.rules.specs.SoundRuns.{words-long}
+use Rattle.rules.specs.Sites.{tables-at}
+use Rattle.rules.specs.Text.{ascii}
+use Rattle.rules.specs.Number.{digits}
+use Rattle.rules.specs.Reports.{reportRun, lineEnd, countLine, ledgerLines, siteLine, siteLines, endLines}
+use Rattle.report.specs.Tables.{ThreeTables}
+use Rattle.report.proofs.Words.{pair}
+
+-- ---- waiting: the slots that are left to be looked at
+waiting-by : (p : Parcel) (ps : List Parcel) (b : Bool) → isFree p ≡ b → waiting (p ∷ ps) ≡ cond b (waiting ps) (suc (waiting ps))
+unfolding waiting
+waiting-by p ps b e = rw e
+
+pub waiting-from : (slots : List Parcel) (i : ℕ) (b : Bool) → i < length slots → isFree (getD slots i noParcel) ≡ b → waiting (drop i slots) ≡ cond b (waiting (drop (i + 1) slots)) (suc (waiting (drop (i + 1) slots)))
+waiting-from slots i b h e = rw (drop-cons slots i noParcel h, add-one i) (waiting-by (getD slots i noParcel) (drop (suc i) slots) b e)
+
+pub waiting-end : (slots : List Parcel) (i : ℕ) → i ≡ length slots → waiting (drop i slots) ≡ 0
+unfolding waiting
+waiting-end slots i e = rw (e, drop-length slots)
+
+-- ---- the lines of the sites that are left
+sites-suc : (n k : ℕ) (ws : List ℕ) → siteLines (suc n) k ws ≡ siteLine k (tableAt reportRun ws k) ++ siteLines n (suc k) ws
+unfolding siteLines
+sites-suc n k ws = refl
+
+regroup : (a b d e f rest : List ℕ) → (a ++ (b ++ (d ++ (e ++ f)))) ++ rest ≡ (a ++ b) ++ ((d ++ (e ++ f)) ++ rest)
+regroup a b d e f rest = simp append-assoc
+
+site-pieces : (k h : ℕ) (t rest : List ℕ) → h ≡ held t → siteLine k t ++ rest ≡ pair (ascii "node=") k ++ (countLine (ascii " shown=") h ++ rest)
+unfolding siteLine
+site-pieces k h t rest e =
+    regroup (ascii "node=") (digits k) (ascii " shown=") (digits (held t)) (lineEnd ∷ []) rest
+    ∙ ap (λ (j : ℕ). pair (ascii "node=") k ++ (countLine (ascii " shown=") j ++ rest)) (sym e)
+
+pub sites-from : (k h : ℕ) (ws : List ℕ) → k < 3 → h ≡ held (tableAt reportRun ws k)
+    → siteLines (3 - k) k ws ≡ pair (ascii "node=") k ++ (countLine (ascii " shown=") h ++ siteLines (3 - (k + 1)) (k + 1) ws)
+sites-from k h ws l e =
+    let n : 3 - k ≡ suc (3 - (k + 1)) = omega arith in
+    ap (λ (j : ℕ). siteLines j k ws) n ∙ sites-suc (3 - (k + 1)) k ws
+    ∙ ap (λ (j : ℕ). siteLine k (tableAt reportRun ws k) ++ siteLines (3 - (k + 1)) j ws) (sym (add-one k))
+    ∙ site-pieces k h (tableAt reportRun ws k) (siteLines (3 - (k + 1)) (k + 1) ws) e
+
+pub sites-end : (k : ℕ) (ws : List ℕ) → 3 ≤ k → siteLines (3 - k) k ws ≡ []
+unfolding siteLines
+sites-end k ws l = let n : 3 - k ≡ 0 = omega arith in rw n
+
+-- ---- a site's part of the words
+pub part-is : (ws : List ℕ) (k : ℕ) → take (k * 16 + 16 - k * 16) (drop (k * 16) ws) ≡ tableAt reportRun ws k
+unfolding tableAt
+part-is ws k = let e : k * 16 + 16 - k * 16 ≡ 16 = omega arith in rw e
+
+-- ---- a sound run has three sound tables
+pub three-tables : (s : State) → StateSound reportRun s → ThreeTables (s .words)
+unfolding tableAt
+three-tables s h = record {
+  count = words-long reportRun (length (s .words)) (length (s .slots)) (h .0);
+  sound = λ k l. tables-at M 16 3 (s .words) (h .1) k l
+}
+
+pub end-pieces : (s : State) (w : ℕ) → w ≡ waiting (s .slots) → endLines s ≡ ledgerLines (s .ledger) w ++ siteLines 3 0 (s .words)
+unfolding endLines
+end-pieces s w e = rw e
