@@ -71,7 +71,7 @@ pub three-tables : (s : State) → StateSound reportRun s → ThreeTables (s .wo
 unfolding tableAt
 three-tables s h = record {
   count = words-long reportRun (length (s .words)) (length (s .slots)) (h .0);
-  sound = λ k l. tables-at M 16 3 (s .words) (h .1) k l
+  sound = λ k l. tables-at M 16 3 (s .words) (h .1) k l;
 }
 
 pub end-pieces : (s : State) (w : ℕ) → w ≡ waiting (s .slots) → endLines s ≡ ledgerLines (s .ledger) w ++ siteLines 3 0 (s .words)

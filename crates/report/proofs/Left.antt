@@ -29,7 +29,7 @@ left-next {out} {place} {end} {wanted} {next} {after} a b l w =
     record {
       behind = omega (arith, l .behind, w .behind, length-append a b);
       bytes = rw (w .behind, w .bytes) (put-put out place a b h ∙ l .bytes);
-      room = rw (w .bytes, put-length out place a h) (l .room)
+      room = rw (w .bytes, put-length out place a h) (l .room);
     }
 
 -- there is room for all of it

@@ -44,7 +44,7 @@ passed-start input first s h r e = record {
   inside = omega arith;
   count = omega arith;
   sound = rw e start-sound;
-  left = rw e (left-as (report-starts input) (left-all first 0 (reportOf input) (omega (arith, report-fits input h))))
+  left = rw e (left-as (report-starts input) (left-all first 0 (reportOf input) (omega (arith, report-fits input h))));
 }
 
 state-sound : (s : State) (r : Named) → StateSound reportRun s → StateSound reportRun (stateOf s r)
@@ -80,10 +80,10 @@ module _ (input first out : List ℕ) (s : State) (n start place i : ℕ) (p : P
       count = omega (arith, p .count);
       sound = rw (t .state) (state-sound s (stepOf (part input start i)) (p .sound));
       left = rw (t .state) (left-as
-        (let z : i + 1 - (i + 1) ≡ 0 = omega arith in
-        ap (λ (j : ℕ). reportFrom j (stateOf s (stepOf (part input start i))) [] (drop (i + 1) input)) (sym (add-one n))
-        ∙ ap (λ (j : ℕ). reportFrom (n + 1) (stateOf s (stepOf (part input start i))) (take j (drop (i + 1) input)) (drop (i + 1) input)) (sym z))
-        (left-next (saidOf n s (stepOf (part input start i))) _ line-left (t .says)))
+          (let z : i + 1 - (i + 1) ≡ 0 = omega arith in
+          ap (λ (j : ℕ). reportFrom j (stateOf s (stepOf (part input start i))) [] (drop (i + 1) input)) (sym (add-one n))
+          ∙ ap (λ (j : ℕ). reportFrom (n + 1) (stateOf s (stepOf (part input start i))) (take j (drop (i + 1) input)) (drop (i + 1) input)) (sym z))
+          (left-next (saidOf n s (stepOf (part input start i))) _ line-left (t .says)));
     }
 
   -- it is one more of the line
@@ -103,10 +103,10 @@ module _ (input first out : List ℕ) (s : State) (n start place i : ℕ) (p : P
     count = omega (arith, p .count);
     sound = p .sound;
     left = left-as
-      (ap (reportFrom n s (part input start i)) (drop-cons input i 0 within) ∙ report-byte n s (part input start i) (getD input i 0) (drop (suc i) input) other
-      ∙ ap (λ (l : List ℕ). reportFrom n s l (drop (suc i) input)) (longer within)
-      ∙ ap (λ (j : ℕ). reportFrom n s (part input start (i + 1)) (drop j input)) (sym (add-one i)))
-      (p .left)
+        (ap (reportFrom n s (part input start i)) (drop-cons input i 0 within) ∙ report-byte n s (part input start i) (getD input i 0) (drop (suc i) input) other
+        ∙ ap (λ (l : List ℕ). reportFrom n s l (drop (suc i) input)) (longer within)
+        ∙ ap (λ (j : ℕ). reportFrom n s (part input start (i + 1)) (drop j input)) (sym (add-one i)))
+        (p .left);
   }
 
   -- ---- the end of the input

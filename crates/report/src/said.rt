@@ -30,7 +30,13 @@ fn write_query(out: &mut [u8], place: usize, line: u64, site: u64, id: u64, held
 }
 
 // The line of a refused step or of an accepted query; every other step says nothing.
-pub(crate) fn write_said(out: &mut [u8], place: usize, line: u64, step: Step, answer: Answer) -> usize
+pub(crate) fn write_said(
+    out: &mut [u8],
+    place: usize,
+    line: u64,
+    step: Step,
+    answer: Answer,
+) -> usize
     requires { ⌜ place + length (lineBy (answer .refusal) line step (answer .value)) ≤ length (now out) ⌝ }
     ensures { λ r. ⌜ Laid (now (out .entry)) place (lineBy (answer .refusal) line step (answer .value)) r (now (out .exit)) ⌝ }
 {

@@ -9,6 +9,7 @@ ghost use mathlib.Core.Path.{_≡_};
 ghost use Rattle.rules.specs.Area.{readRefusal, areaAfter};
 ghost use Rattle.rules.specs.Calls.{Called};
 ghost use Rattle.rules.specs.Members.{Answered};
+ghost use Rattle.rules.specs.Reports.{Told};
 ghost use Rattle.rules.specs.Runs.{lent, Freshened};
 ghost use Rattle.rules.specs.Writing.{checkOf, Filled};
 
@@ -95,4 +96,14 @@ pub extern "C" fn wg_write_line(
     ensures { λ r. ⌜ Filled kind first second id (now (buffer .entry)) (now (buffer .exit)) r ⌝ }
 {
     lines::fill(kind, first, second, id, buffer)
+}
+
+// The report of a text of step lines at the front of the buffer, and how many bytes it has.
+#[no_mangle]
+pub extern "C" fn wg_report(input: &[u8], out: &mut [u8], written: &mut usize) -> u32
+    ensures { λ r. ⌜ Told (now (input .entry)) (now (out .entry)) (record { refusal = r; written = now (written .exit) }) (now (out .exit)) ⌝ }
+{
+    let told = report::report(input, out);
+    *written = told.written;
+    told.refusal
 }

@@ -21,11 +21,11 @@ slice-aggregate-write-sites c = search needs
 
 write-sites-requires : tie.Need-write-sites-requires
 write-sites-requires c κs = let s = c .before .before .before .before .before .before .before .before .before .before .before .args in (
-      three-tables (keptState (s .kept)) (c .before .before .before .before .before .before .before .before .before .before .before .pre .0),
-      left-fits (left-next (ledgerLines (s .kept .ledger) (c .before .before .before .before .before .count-waiting .result)) (siteLines 3 0 (s .kept .words))
-    (left-as (end-pieces (keptState (s .kept)) (c .before .before .before .before .before .count-waiting .result) (c .before .before .before .before .before .count-waiting .ensures)) (left-all (now (s .out)) (s .place) (endLines (keptState (s .kept))) (c .before .before .before .before .before .before .before .before .before .before .before .pre .1)))
-    (c .before .before .before .before .write-ledger .ensures)),
-    )
+  three-tables (keptState (s .kept)) (c .before .before .before .before .before .before .before .before .before .before .before .pre .0),
+  left-fits (left-next (ledgerLines (s .kept .ledger) (c .before .before .before .before .before .count-waiting .result)) (siteLines 3 0 (s .kept .words))
+      (left-as (end-pieces (keptState (s .kept)) (c .before .before .before .before .before .count-waiting .result) (c .before .before .before .before .before .count-waiting .ensures)) (left-all (now (s .out)) (s .place) (endLines (keptState (s .kept))) (c .before .before .before .before .before .before .before .before .before .before .before .pre .1)))
+      (c .before .before .before .before .write-ledger .ensures)),
+)
 
 same-length : tie.Need-same-length
 same-length c = search needs

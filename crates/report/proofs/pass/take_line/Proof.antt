@@ -45,7 +45,7 @@ returns-2 c = let s = c .before .before .before .before .before .before .before 
     let k = c .before .before .before .before .before .before .step-kept .ensures in
     record {
       state = k .state ∙ state-step (keptState (s .kept)) _ _ e;
-      says = laid-as (sym (said-step (s .n) (keptState (s .kept)) _ _ _ e (k .answer))) (c .before .before .write-said .ensures)
+      says = laid-as (sym (said-step (s .n) (keptState (s .kept)) _ _ _ e (k .answer))) (c .before .before .write-said .ensures);
     }
 
 pub take-line-spec : {M : Type 1} → statement M

@@ -64,12 +64,12 @@ loop-again c = let s = c .before .before .before .before .before .before .before
     (λ w. (
       ap length (w .7) ∙ line-long (now (s .input)) (now (s .out)) (l .out) (keptState (l .kept)) (l .n) (l .start) (l .place) (l .i) (l .inv .1) (c .before .before .loop-test .taken) (w .0 .taken) _ _ _ (w .3 .ensures) ∙ l .inv .0,
       passed-same (w .7) (ap keptState (w .8)) (w .9) (w .10) (w .11)
-      (passed-line (now (s .input)) (now (s .out)) (l .out) (keptState (l .kept)) (l .n) (l .start) (l .place) (l .i) (l .inv .1) (c .before .before .loop-test .taken) (w .0 .taken) _ _ _ (w .3 .ensures)),
+          (passed-line (now (s .input)) (now (s .out)) (l .out) (keptState (l .kept)) (l .n) (l .start) (l .place) (l .i) (l .inv .1) (c .before .before .loop-test .taken) (w .0 .taken) _ _ _ (w .3 .ensures)),
     ))
     (λ w. (
       ap length (w .1) ∙ l .inv .0,
       passed-same (w .1) (ap keptState (w .2)) (w .3) (w .4) (w .5)
-      (passed-byte (now (s .input)) (now (s .out)) (l .out) (keptState (l .kept)) (l .n) (l .start) (l .place) (l .i) (l .inv .1) (c .before .before .loop-test .taken) (w .0 .left)),
+          (passed-byte (now (s .input)) (now (s .out)) (l .out) (keptState (l .kept)) (l .n) (l .start) (l .place) (l .i) (l .inv .1) (c .before .before .loop-test .taken) (w .0 .left)),
     ))
     (c .if1 .came)
 
