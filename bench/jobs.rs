@@ -239,7 +239,7 @@ fn reports(rows: &mut Vec<Row>, rounds: usize) {
             text
         })
         .collect();
-    let mut out = vec![0; 720_896];
+    let mut out = vec![0; 721_152];
     for t in &texts {
         let n = ffi::report(t, &mut out);
         assert!(out[..n] == plain::report(t)[..]);
