@@ -2,14 +2,13 @@
 -- Assumes nothing.
 use Prim.Native.Nat.{ℕ, _+_, _≤_, _<_}
 use native.Mathlib.Omega.{arith}
-use mathlib.Core.Path.{_≡_, refl, sym, ap, _∙_}
+use mathlib.Core.Path.{_≡_, sym, ap, _∙_}
 use mathlib.Core.List.{List, [], _∷_, _++_}
 use lib.ListN.{length}
 use borrow.Author.Tests.{lt-ltb, le-ltb}
-use Rattle.rules.specs.declared.Reported.{Reported}
 use Rattle.rules.specs.Text.{ascii}
 use Rattle.rules.specs.Put.{put, put-nil}
-use Rattle.rules.specs.Reports.{lineEnd, inputLimit, reportRoom, reportOf, reportFor, Told, printedOf, printedFor, Printed}
+use Rattle.rules.specs.Reports.{lineEnd, inputLimit, reportRoom, reportOf, Told, printedOf, printedFor, Printed}
 use Rattle.rules.specs.ReportLaws.{report-over, report-short, report-taken, told-refused, told-taken}
 use Rattle.report.specs.Laid.{Laid}
 

@@ -1,19 +1,18 @@
 -- What the end of a report counts: the slots that are not free, and the entries of each table.
 -- Assumes nothing.
-use Prim.Native.Nat.{ℕ, zero, suc, _+_, _*_, _-_, _≤_, _<_}
+use Prim.Native.Nat.{ℕ, suc, _+_, _*_, _-_, _≤_, _<_}
 use native.Mathlib.Omega.{arith}
 use native.Mathlib.Numerals.{add-one}
 use mathlib.Core.Path.{_≡_, refl, sym, ap, _∙_}
-use mathlib.Core.Bool.{Bool, true, false, not, cond}
+use mathlib.Core.Bool.{Bool, cond}
 use mathlib.Core.List.{List, [], _∷_, _++_, append-assoc}
 use lib.ListN.{length, take, drop, getD}
 use lib.Seq.{drop-cons, drop-length}
-use borrow.Author.Tests.{not-true, not-false}
 use Rattle.rules.specs.declared.Parcel.{Parcel}
 use Rattle.rules.specs.Lengths.{M}
 use Rattle.rules.specs.Parcels.{isFree, noParcel, waiting}
-use Rattle.rules.specs.Table.{SoundTable, held}
-use Rattle.rules.specs.Runs.{State, width, tableAt}
+use Rattle.rules.specs.Table.{held}
+use Rattle.rules.specs.Runs.{State, tableAt}
 use Rattle.rules.specs.RunLaws.{StateSound}
 use Rattle.rules.specs.SoundRuns.{words-long}
 use Rattle.rules.specs.Sites.{tables-at}

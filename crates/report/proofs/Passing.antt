@@ -1,11 +1,11 @@
 -- The pass over the input: what is known before each byte, and how a byte keeps it.
 -- Assumes nothing.
-use Prim.Native.Nat.{ℕ, zero, suc, _+_, _-_, _≤_, _<_}
+use Prim.Native.Nat.{ℕ, suc, _+_, _-_, _≤_, _<_}
 use native.Mathlib.Omega.{arith}
 use native.Mathlib.Numerals.{add-one}
-use mathlib.Core.Path.{_≡_, refl, sym, ap, subst, _∙_}
+use mathlib.Core.Path.{_≡_, refl, sym, ap, _∙_}
 use mathlib.Core.List.{List, [], _∷_, _++_}
-use lib.ListN.{length, take, drop, getD, length-take, length-drop}
+use lib.ListN.{length, take, drop, getD, length-drop}
 use lib.Seq.{drop-cons, drop-length, take-suc, getD-drop, length-take-le}
 use Rattle.rules.specs.declared.Named.{Named}
 use Rattle.rules.specs.declared.Named.the-variants.{Is, NoStep}
@@ -17,7 +17,6 @@ use Rattle.rules.specs.Put.{put, put-length}
 use Rattle.rules.specs.StepLines.{stepOf}
 use Rattle.rules.specs.Reports.{reportRun, reportStart, lineEnd, inputLimit, reportRoom, refusedLine, endLines, saidOf, stateOf, reportFrom, reportOf}
 use Rattle.rules.specs.ReportLaws.{report-line, report-byte, report-done, report-unended, report-starts, report-fits}
-use Rattle.report.specs.Laid.{Laid}
 use Rattle.report.specs.Lines.{Taken}
 use Rattle.report.proofs.Left.{Left, left-all, left-room, left-next, left-as}
 

@@ -17,13 +17,12 @@ use Rattle.rules.specs.declared.Step.the-variants.{Add, Remove, Query, Send, Me
 use Rattle.rules.specs.declared.Named.{Named}
 use Rattle.rules.specs.declared.Named.the-variants.{Is, NoStep}
 use Rattle.rules.specs.Lengths.{listed}
-use Rattle.rules.specs.Table.{held}
 use Rattle.rules.specs.Operations.{answer}
-use Rattle.rules.specs.Runs.{State, tableAt, refusalOf, valueOf, answerOf, after}
+use Rattle.rules.specs.Runs.{State, refusalOf, valueOf, answerOf, after}
 use Rattle.rules.specs.Text.{ascii}
 use Rattle.rules.specs.Number.{digits}
 use Rattle.rules.specs.NumberLaws.{by-test}
-use Rattle.rules.specs.Reports.{reportRun, lineEnd, refusedLine, queryLine, countLine, ledgerLines, siteLine, acceptedLine, lineBy, saidOf, stateOf}
+use Rattle.rules.specs.Reports.{reportRun, lineEnd, refusedLine, queryLine, countLine, ledgerLines, acceptedLine, lineBy, saidOf, stateOf}
 
 -- a name and a number
 abbrev pub pair : List ℕ → ℕ → List ℕ

@@ -40,7 +40,7 @@ pub fn printed(input: &[u8], out: &mut [u8]) -> usize
     if out.len() < 721152 {
         return 0;
     }
-    if input.len() > 32768 {
+    if 32768 < input.len() {
         return write_text(out, 0, b"refused=12\n");
     }
     write_report(input, out)

@@ -1,5 +1,4 @@
 -- `gantry_report::main`: the part that is printed is within the buffer. Assumes nothing.
-use native.Mathlib.Omega.{arith}
 use Rattle.report.specs.Fits.{printed-fits, printed-part}
 use borrow.Author.Needs.{needs}
 use Rattle.gantry_report.proofs.main.Statement.{statement}

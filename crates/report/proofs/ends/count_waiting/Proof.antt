@@ -1,4 +1,4 @@
-use Prim.Native.Nat.{ℕ, suc, _+_, _-_, _≤_}
+use Prim.Native.Nat.{suc, _+_, _-_, _≤_}
 use mathlib.Core.Path.{_≡_, sym, _∙_}
 use mathlib.Core.Logic.{⊎-elim}
 use mathlib.Core.Bool.{true, false}
@@ -12,9 +12,6 @@ use native.Mathlib.Omega.{arith}
 use borrow.Author.Needs.{needs}
 use Rattle.report.proofs.ends.count_waiting.Statement.{statement}
 use Rattle.report.proofs.ends.count_waiting.Tie as tie
-use Rattle.report.proofs.ends.count_waiting.Reads as reads
-use Rattle.report.proofs.ends.count_waiting.Lts as lts
-use Rattle.parcels.proofs.is_free.Reads as is-free-reads
 
 abbrev Inv-loop : tie.InvT-loop
 Inv-loop slots n₀ i₀ n i = (i ≤ 8) × (n ≤ i) × (n + waiting (drop i slots) ≡ waiting slots)
@@ -22,7 +19,6 @@ Inv-loop slots n₀ i₀ n i = (i ≤ 8) × (n ≤ i) × (n + waiting (drop i sl
 abbrev μ-loop : tie.MeasureT-loop
 μ-loop slots n₀ i₀ n i = 8 - i
 
--- src/ends.rt:25:5
 abbrev slots : tie.Start Inv-loop μ-loop → List Parcel
 slots c = c .args .t1
 
@@ -32,31 +28,24 @@ eight c = search needs
 loop-holds : tie.Need-loop-holds Inv-loop μ-loop
 loop-holds c = (omega arith, omega arith, omega arith)
 
--- src/ends.rt:26:22
 mul-parcel : tie.Need-mul-parcel Inv-loop μ-loop
 mul-parcel c = search needs
 
--- src/ends.rt:26:22
 array-copy-out-parcel : tie.Need-array-copy-out-parcel Inv-loop μ-loop
 array-copy-out-parcel c = omega arith
 
--- src/ends.rt:27:13
 is-free-requires : tie.Need-is-free-requires Inv-loop μ-loop
 is-free-requires c κs = search needs
 
--- src/ends.rt:28:13
 add-n : tie.Need-add-n Inv-loop μ-loop
 add-n c = search needs
 
--- src/ends.rt:30:9
 add-i : tie.Need-add-i Inv-loop μ-loop
 add-i c = search needs
 
--- src/ends.rt:25:5
 loop-less : tie.Need-loop-less Inv-loop μ-loop
 loop-less c = search needs
 
--- src/ends.rt:25:5
 loop-again : tie.Need-loop-again Inv-loop μ-loop
 loop-again c = let l = c .before .before .before .before .loop in
     ⊎-elim
@@ -64,7 +53,6 @@ loop-again c = let l = c .before .before .before .before .loop in
     (λ w. let e : waiting (drop (l .i) (slots (c .before .before .before .before .before))) ≡ waiting (drop (l .i + 1) (slots (c .before .before .before .before .before))) = waiting-from (slots (c .before .before .before .before .before)) (l .i) true (omega (arith, eight (c .before .before .before .before .before))) (sym (c .before .is-free .ensures) ∙ not-false _ (w .0 .left)) in (omega arith, omega (arith, w .1), omega (arith, w .1, e, l .inv .2)))
     (c .if1 .came)
 
--- src/ends.rt
 returns : tie.Need-returns Inv-loop μ-loop
 returns c = omega (arith, waiting-end (slots (c .before .before)) (c .before .loop .i) (omega (arith, eight (c .before .before))), c .before .loop .inv .2)
 

@@ -1,5 +1,5 @@
 -- `report::pass::take_line`: what is no step is refused with 11; a step is run, and its answer told. Assumes nothing.
-use mathlib.Core.Path.{_≡_, sym, _∙_}
+use mathlib.Core.Path.{sym, _∙_}
 use denote.Ref.{now}
 use Rattle.kept.specs.Kept.{keptState}
 use Rattle.report.proofs.Left.{room-as, laid-as}

@@ -2,7 +2,7 @@
 use mathlib.Core.List.{_++_}
 use denote.Ref.{now}
 use Rattle.rules.specs.Number.{digits}
-use Rattle.report.proofs.Left.{Left, left-all, left-room, left-next, left-fits, laid-last, laid-by}
+use Rattle.report.proofs.Left.{left-all, left-room, left-next, left-fits, laid-last, laid-by}
 use borrow.Author.Needs.{needs}
 use Rattle.report.proofs.pieces.write_pair.Statement.{statement}
 use Rattle.report.proofs.pieces.write_pair.Tie as tie

@@ -1,5 +1,5 @@
 -- `report::said::write_said`: a refusal, a query, or nothing. Assumes nothing.
-use mathlib.Core.Path.{_≡_, sym}
+use mathlib.Core.Path.{sym}
 use denote.Ref.{now}
 use Rattle.report.proofs.Left.{room-as, laid-as, laid-nothing}
 use Rattle.report.proofs.Words.{refused-by, asked-by, silent-by}
