@@ -1,4 +1,4 @@
-pub mod Fits
 pub mod Laid
 pub mod Lines
+pub mod Printing
 pub mod Tables

@@ -1,5 +1,5 @@
 -- `gantry_report::main`: the part that is printed is within the buffer. Assumes nothing.
-use Rattle.report.specs.Fits.{printed-fits, printed-part}
+use Rattle.report.specs.Printing.{printed-fits, printed-part}
 use borrow.Author.Needs.{needs}
 use Rattle.gantry_report.proofs.main.Statement.{statement}
 use Rattle.gantry_report.proofs.main.Tie as tie

@@ -1,5 +1,5 @@
 -- `cases_report::show::two_ends`: what is printed is within the buffer. Assumes nothing.
-use Rattle.report.specs.Fits.{printed-fits, printed-part}
+use Rattle.report.specs.Printing.{printed-fits, printed-part}
 use borrow.Author.Needs.{needs}
 use Rattle.cases_report.proofs.show.two_ends.Statement.{statement}
 use Rattle.cases_report.proofs.show.two_ends.Tie as tie

@@ -1,5 +1,5 @@
 -- `cases_report::show::whole`: what is printed is within the buffer. Assumes nothing.
-use Rattle.report.specs.Fits.{printed-fits, printed-part}
+use Rattle.report.specs.Printing.{printed-fits, printed-part}
 use borrow.Author.Needs.{needs}
 use Rattle.cases_report.proofs.show.whole.Statement.{statement}
 use Rattle.cases_report.proofs.show.whole.Tie as tie

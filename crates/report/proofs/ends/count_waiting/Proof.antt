@@ -1,3 +1,4 @@
+-- `report::ends::count_waiting`. Invariant: what is counted, and what waits in the slots from i on, is all that waits. Assumes nothing.
 use Prim.Native.Nat.{suc, _+_, _-_, _≤_}
 use mathlib.Core.Path.{_≡_, sym, _∙_}
 use mathlib.Core.Logic.{⊎-elim}
