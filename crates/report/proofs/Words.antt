@@ -1,12 +1,10 @@
 -- The lines of a report by the pieces in which they are written.
 -- Assumes nothing.
-use Prim.Native.Nat.{ℕ, zero, suc, _+_, _%_}
+use Prim.Native.Nat.{ℕ, zero, suc}
 use native.Mathlib.Omega.{arith}
 use mathlib.Core.Path.{_≡_, refl, sym, ap, _∙_}
-use mathlib.Core.Bool.{cond}
+use mathlib.Core.Bool.{Bool, cond}
 use mathlib.Core.List.{List, [], _∷_, _++_, append-assoc}
-use lib.Dec.{eqb}
-use borrow.Author.Tests.{eqb-true, eqb-false}
 use types.Run.{OneOf, miss}
 use denote.Enum.Declared.{tagOf}
 use Rattle.rules.proofs.Step as Q
@@ -21,7 +19,6 @@ use Rattle.rules.specs.Operations.{answer}
 use Rattle.rules.specs.Runs.{State, refusalOf, valueOf, answerOf, after}
 use Rattle.rules.specs.Text.{ascii}
 use Rattle.rules.specs.Number.{digits}
-use Rattle.rules.specs.NumberLaws.{by-test}
 use Rattle.rules.specs.Reports.{reportRun, lineEnd, refusedLine, queryLine, countLine, ledgerLines, acceptedLine, lineBy, saidOf, stateOf}
 
 -- a name and a number
@@ -36,18 +33,14 @@ pub refused-pieces : (n r : ℕ) → refusedLine n r ≡ pair (ascii "line=") n 
 unfolding refusedLine
 refused-pieces n r = sym (append-assoc (ascii "line=") (digits n) _)
 
--- 1 or 0 is what is left of the length by 2
-present : (m : ℕ) → cond (listed m) 1 0 ≡ m % 2
-unfolding listed
-present m =
-    by-test (eqb (m % 2) 1)
-    (λ y. rw y (let e : m % 2 ≡ 1 = eqb-true (m % 2) 1 y in sym e))
-    (λ n. rw n (let e : m % 2 ≡ 1 → ⊥ = eqb-false (m % 2) 1 n in omega arith))
+-- 1 where the length is listed, else 0
+pub present-is : (n : ℕ) (b : Bool) {r : Bool} → r ≡ listed n → r ≡ b → _≡_ {A = ℕ} (cond b 1 0) (cond (listed n) 1 0)
+present-is n b e t = rw (sym e ∙ t)
 
-pub query-pieces : (n k e m : ℕ) → queryLine n k e m
-    ≡ pair (ascii "line=") n ++ (pair (ascii " node=") k ++ (pair (ascii " id=") e ++ (pair (ascii " length=") m ++ countLine (ascii " present=") (m % 2))))
+pub query-pieces : (n k e m p : ℕ) → p ≡ cond (listed m) 1 0 → queryLine n k e m
+    ≡ pair (ascii "line=") n ++ (pair (ascii " node=") k ++ (pair (ascii " id=") e ++ (pair (ascii " length=") m ++ countLine (ascii " present=") p)))
 unfolding queryLine
-query-pieces n k e m = rw (present m) (simp append-assoc)
+query-pieces n k e m p h = rw (← h) (simp append-assoc)
 
 pub ledger-pieces : (l : Ledger) (w : ℕ) → ledgerLines l w
     ≡ countLine (ascii "sent=") (l .sent) ++ (countLine (ascii "copied=") (l .copied) ++ (countLine (ascii "absorbed=") (l .absorbed) ++ (countLine (ascii "lost=") (l .lost) ++ countLine (ascii "waiting=") w)))

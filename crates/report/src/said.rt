@@ -1,10 +1,14 @@
 // What one line of the input adds to the report.
 use crate::pieces::write_count;
 use crate::pieces::write_pair;
+use lengths::listed;
 use rules::Answer;
 use rules::Step;
 ghost use Prim.Native.Nat.{_+_, _≤_};
+ghost use mathlib.Core.Bool.{cond};
+ghost use mathlib.Core.Path.{_≡_};
 ghost use lib.ListN.{length};
+ghost use Rattle.rules.specs.Lengths.{listed};
 ghost use Rattle.rules.specs.Reports.{refusedLine, queryLine, lineBy};
 ghost use Rattle.report.specs.Laid.{Laid};
 
@@ -17,16 +21,24 @@ pub(crate) fn write_refused(out: &mut [u8], place: usize, line: u64, refusal: u6
     write_count(out, a, b" refused=", refusal)
 }
 
+// "1 if listed else 0"
+fn present(n: u64) -> u64
+    ensures { λ r. ⌜ r ≡ cond (listed n) 1 0 ⌝ }
+{
+    if listed(n) { 1 } else { 0 }
+}
+
 // "and each accepted query (line, site, id, length, 1 if listed else 0)"
 fn write_query(out: &mut [u8], place: usize, line: u64, site: u64, id: u64, held: u64) -> usize
     requires { ⌜ place + length (queryLine line site id held) ≤ length (now out) ⌝ }
     ensures { λ r. ⌜ Laid (now (out .entry)) place (queryLine line site id held) r (now (out .exit)) ⌝ }
 {
+    let p = present(held);
     let a = write_pair(out, place, b"line=", line);
     let b = write_pair(out, a, b" node=", site);
     let d = write_pair(out, b, b" id=", id);
     let e = write_pair(out, d, b" length=", held);
-    write_count(out, e, b" present=", held % 2)
+    write_count(out, e, b" present=", p)
 }
 
 // The line of a refused step or of an accepted query; every other step says nothing.
