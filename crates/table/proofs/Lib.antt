@@ -1,6 +1,7 @@
 pub mod Pairs
 pub mod Judging
 pub mod Search
+pub mod Powers
 pub mod Shift
 pub mod Backwards
 pub mod Counting

@@ -1,25 +1,49 @@
 // Where an id stands in a sound table.
 use rules::Found;
 ghost use mathlib.Core.Path.{_≡_};
-ghost use Rattle.rules.specs.Table.{SoundTable, foundOf, lengthOf};
+ghost use mathlib.Core.Bool.{not, _&&_};
+ghost use Prim.Native.Nat.{_+_, _*_, _^_, _≤_, _<_};
+ghost use lib.Dec.{leb, eqb};
+ghost use lib.ListN.{length};
+ghost use Rattle.rules.specs.Table.{SoundTable, foundOf, lengthOf, idAt, lengthAt};
 
-// The place where the id stands, or its absence: by halving, at most 12 places looked at in a table of 2,048.
+// The exponent of the largest power of two in a number.
+fn halvings(n: usize) -> usize
+    requires { ⌜ 1 ≤ n ⌝ }
+    ensures { λ r. ⌜ r < 64 ⌝ }
+    ensures { λ r. ⌜ 2 ^ r ≤ n ⌝ }
+    ensures { λ r. ⌜ n < 2 * 2 ^ r ⌝ }
+{
+    (63 - usize::leading_zeros(n)) as usize
+}
+
+// Whether a place is in use with an id not above the one sought.
+fn reaches(table: &[u64], i: usize, id: u64) -> bool
+    requires { ⌜ 2 * (i + 1) ≤ length (now table) ⌝ }
+    ensures { λ r. ⌜ r ≡ not (eqb (lengthAt (now (table .entry)) i) 0) && leb (idAt (now (table .entry)) i) id ⌝ }
+{
+    (table[2 * i + 1] != 0) & (table[2 * i] <= id)
+}
+
+// The place where the id stands, or its absence: by halving, at most 13 places looked at in a table of 2,048.
 pub fn lookup(table: &[u64], id: u64) -> Found
     requires { ⌜ SoundTable (now table) ⌝ }
     ensures { λ r. ⌜ r ≡ foundOf (now (table .entry)) id ⌝ }
 {
-    let mut base = 0;
-    let mut size = table.len() / 2;
-    if size == 0 {
+    let n = table.len() / 2;
+    if n == 0 {
         return Found::Absent;
     }
-    while 1 < size {
-        let half = size / 2;
-        let mid = base + half;
-        if (table[2 * mid + 1] != 0) & (table[2 * mid] <= id) {
-            base = mid;
-        }
-        size = size - half;
+    let mut k = halvings(n);
+    let mid = n - (1 << k);
+    let mut base = 0;
+    if reaches(table, mid, id) {
+        base = mid;
+    }
+    while 0 < k {
+        k = k - 1;
+        let up = reaches(table, base + (1 << k), id);
+        base = base + ((up as usize) << k);
     }
     if (table[2 * base + 1] != 0) & (table[2 * base] == id) {
         Found::At(base)

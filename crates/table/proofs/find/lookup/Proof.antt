@@ -1,72 +1,103 @@
 -- `table::find::lookup`: `Span` is what halving keeps.
 -- Assumes nothing.
-use Prim.Native.Nat.{ℕ}
-use mathlib.Core.Path.{_≡_, sym}
+use Prim.Native.Nat.{ℕ, _+_, _*_, _-_, _^_, _≤_, _<_}
+use mathlib.Core.Path.{_≡_, sym, _∙_}
 use mathlib.Core.Logic.{⊎-elim}
 use Rattle.rules.specs.Lengths.{M}
 use Rattle.rules.specs.Table.{held}
 use Rattle.rules.specs.Places.{Laid, laid-of, found-none}
-use Rattle.table.proofs.Search.{Span, span-start, span-up, span-stay, span-found, span-none}
+use Rattle.table.proofs.Search.{Span, span-found, span-none}
+use Rattle.table.proofs.Powers.{one-shifted, bit-shifted, positive, bit-le, last, inside, first-up, first-stay, next}
 use native.Mathlib.Omega.{arith}
 use borrow.Author.Needs.{needs}
 use Rattle.table.proofs.find.lookup.Statement.{statement}
 use Rattle.table.proofs.find.lookup.Tie as tie
 
 abbrev Inv-loop : tie.InvT-loop
-Inv-loop table id base₀ size₀ base size = Span table (held table) id base size
+Inv-loop table id n k₀ mid base₀ k base = (k < 64) × Span table (held table) id base (2 ^ k)
 
 abbrev μ-loop : tie.MeasureT-loop
-μ-loop table id base₀ size₀ base size = size
+μ-loop table id n k₀ mid base₀ k base = k
 
 returns : tie.Need-returns Inv-loop μ-loop
 returns c =
-    let w = laid-of M _ (c .before .pre) in
+    let w = laid-of M _ (c .before .before .pre) in
     sym (found-none w _ (λ i p q. omega (arith, w .room, c .if1 .taken)))
+
+halvings-requires : tie.Need-halvings-requires Inv-loop μ-loop
+halvings-requires c κs = omega (arith, c .if1 .left)
+
+shl-mid : tie.Need-shl-mid Inv-loop μ-loop
+shl-mid c = c .halvings .ensures .0
+
+sub-mid : tie.Need-sub-mid Inv-loop μ-loop
+sub-mid c = rw (one-shifted _ (c .halvings .ensures .0)) (c .halvings .ensures .1 .0)
+
+reaches-requires : tie.Need-reaches-requires Inv-loop μ-loop
+reaches-requires c κs =
+    let h = c .halvings .ensures in
+    let p = positive (c .halvings .result) in
+    rw (one-shifted _ (h .0)) (omega (arith, h .1 .0, p))
 
 loop-holds : tie.Need-loop-holds Inv-loop μ-loop
 loop-holds c =
-    let w = laid-of M _ (c .before .pre) in
-    span-start w _ _ (omega arith) (omega arith) (omega (arith, w .room))
+    let h = c .before .before .halvings .ensures in
+    let w = laid-of M _ (c .before .before .before .before .before .pre) in
+    let r = c .before .reaches .ensures in (
+      h .0,
+      ⊎-elim
+      (λ v. rw (v .1, one-shifted _ (h .0)) (first-up w _ _ _ (omega arith) (omega (arith, w .room)) (h .1 .0) (h .1 .1) (sym (rw (one-shifted _ (h .0)) at r) ∙ v .0 .taken)))
+      (λ v. rw (v .1) (first-stay w _ _ _ (omega arith) (omega (arith, w .room)) (h .1 .0) (h .1 .1) (sym (rw (one-shifted _ (h .0)) at r) ∙ v .0 .left)))
+      (c .if2 .came),
+    )
 
-add-mid : tie.Need-add-mid Inv-loop μ-loop
-add-mid c = search needs
+sub-k : tie.Need-sub-k Inv-loop μ-loop
+sub-k c = search needs
 
-mul-if2 : tie.Need-mul-if2 Inv-loop μ-loop
-mul-if2 c = search needs
+shl-reaches : tie.Need-shl-reaches Inv-loop μ-loop
+shl-reaches c = search needs
 
-add-if2 : tie.Need-add-if2 Inv-loop μ-loop
-add-if2 c = search needs
+add-reaches : tie.Need-add-reaches Inv-loop μ-loop
+add-reaches c =
+    let l = c .before .before in
+    let w = laid-of M _ (l .before .before .before .before .before .before .pre) in
+    let g : l .loop .k - 1 < 64 = omega (arith, l .loop .inv .0) in
+    let i = inside w _ _ _ (c .before .loop-test .taken) (l .loop .inv .1) in
+    rw (one-shifted _ g) (record { fits = search needs })
 
-mul-if2-2 : tie.Need-mul-if2-2 Inv-loop μ-loop
-mul-if2-2 c = search needs
+reaches-requires-2 : tie.Need-reaches-requires-2 Inv-loop μ-loop
+reaches-requires-2 c κs =
+    let l = c .before .before in
+    let w = laid-of M _ (l .before .before .before .before .before .before .pre) in
+    let g : l .loop .k - 1 < 64 = omega (arith, l .loop .inv .0) in
+    rw (one-shifted _ g) (inside w _ _ _ (c .before .loop-test .taken) (l .loop .inv .1))
 
-shared-slice-read-if2 : tie.Need-shared-slice-read-if2 Inv-loop μ-loop
-shared-slice-read-if2 c = search needs
+cast-base : tie.Need-cast-base Inv-loop μ-loop
+cast-base c = search needs
 
-mul-if2-3 : tie.Need-mul-if2-3 Inv-loop μ-loop
-mul-if2-3 c = search needs
+shl-base : tie.Need-shl-base Inv-loop μ-loop
+shl-base c = search needs
 
-mul-if2-4 : tie.Need-mul-if2-4 Inv-loop μ-loop
-mul-if2-4 c = search needs
-
-shared-slice-read-if2-2 : tie.Need-shared-slice-read-if2-2 Inv-loop μ-loop
-shared-slice-read-if2-2 c = search needs
-
-sub-size : tie.Need-sub-size Inv-loop μ-loop
-sub-size c = search needs
+add-base : tie.Need-add-base Inv-loop μ-loop
+add-base c =
+    let l = c .before .before .before in
+    let w = laid-of M _ (l .before .before .before .before .before .before .pre) in
+    let g : l .loop .k - 1 < 64 = omega (arith, l .loop .inv .0) in
+    let i = inside w _ _ _ (c .before .before .loop-test .taken) (l .loop .inv .1) in
+    let b = bit-le (c .reaches2 .result) (2 ^ (l .loop .k - 1)) in
+    rw (bit-shifted (c .reaches2 .result) _ g) (record { fits = search needs })
 
 loop-less : tie.Need-loop-less Inv-loop μ-loop
 loop-less c = search needs
 
 loop-again : tie.Need-loop-again Inv-loop μ-loop
 loop-again c =
-    let l = c .before .before .before .before in
-    let w = laid-of M _ (l .before .before .pre) in
-    let s = l .loop .inv in
-    ⊎-elim
-    (λ v. rw (v .1) (span-up w _ _ _ _ _ s (omega arith) (omega arith) (omega arith) (omega arith) (omega arith) (v .0 .taken)))
-    (λ v. rw (v .1) (span-stay w _ _ _ _ _ s (omega arith) (omega arith) (omega arith) (omega arith) (omega arith) (v .0 .left)))
-    (c .if2 .came)
+    let l = c .before .before .before in
+    let w = laid-of M _ (l .before .before .before .before .before .before .pre) in
+    let i = l .loop .inv in
+    let g : l .loop .k - 1 < 64 = omega (arith, i .0) in
+    let r = rw (one-shifted _ g) at (c .reaches2 .ensures) in
+    (g, rw (bit-shifted (c .reaches2 .result) _ g) (next w _ _ _ (c .before .before .loop-test .taken) (i .1) _ r))
 
 mul-if3 : tie.Need-mul-if3 Inv-loop μ-loop
 mul-if3 c = search needs
@@ -91,13 +122,13 @@ shared-slice-read-if3-2 c = search needs
 
 returns-2 : tie.Need-returns-2 Inv-loop μ-loop
 returns-2 c =
-    let l = c .before .before .before .before in
-    span-found (laid-of M _ (l .before .before .pre)) _ _ _ (l .loop .inv) (c .before .before .before .loop-test .left) (c .if3 .taken)
+    let l = c .before .before .before .before .before in
+    span-found (laid-of M _ (l .before .before .before .before .before .before .pre)) _ _ _ (l .loop .inv .1) (last (l .loop .k) (c .before .before .before .before .loop-test .left)) (c .if3 .taken)
 
 returns-3 : tie.Need-returns-3 Inv-loop μ-loop
 returns-3 c =
-    let l = c .before .before .before .before in
-    span-none (laid-of M _ (l .before .before .pre)) _ _ _ (l .loop .inv) (c .before .before .before .loop-test .left) (c .if3 .left)
+    let l = c .before .before .before .before .before in
+    span-none (laid-of M _ (l .before .before .before .before .before .before .pre)) _ _ _ (l .loop .inv .1) (last (l .loop .k) (c .before .before .before .before .loop-test .left)) (c .if3 .left)
 
 pub lookup-spec : {M : Type 1} → statement M
 lookup-spec =
@@ -106,16 +137,18 @@ lookup-spec =
     Inv-loop
     μ-loop
     returns
+    halvings-requires
+    shl-mid
+    sub-mid
+    reaches-requires
     loop-holds
-    add-mid
-    mul-if2
-    add-if2
-    mul-if2-2
-    shared-slice-read-if2
-    mul-if2-3
-    mul-if2-4
-    shared-slice-read-if2-2
-    sub-size
+    sub-k
+    shl-reaches
+    add-reaches
+    reaches-requires-2
+    cast-base
+    shl-base
+    add-base
     loop-less
     loop-again
     mul-if3
