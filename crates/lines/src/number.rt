@@ -65,15 +65,24 @@ pub fn read_number(line: &[u8], place: usize) -> Piece
     Piece::Refused
 }
 
-// How many digits a number has.
+// How many digits a number has. Four go with each division, as a division costs more than a comparison.
 pub fn places(n: u64) -> usize
     ensures { λ r. ⌜ (r ≡ length (digits n)) × (r ≤ 20) ⌝ }
 {
     let mut k: usize = 1;
     let mut rest = n;
-    while rest >= 10 {
-        rest = rest / 10;
-        k += 1;
+    while rest >= 10000 {
+        rest = rest / 10000;
+        k += 4;
+    }
+    if rest >= 1000 {
+        return k + 3;
+    }
+    if rest >= 100 {
+        return k + 2;
+    }
+    if rest >= 10 {
+        return k + 1;
     }
     k
 }

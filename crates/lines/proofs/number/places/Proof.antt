@@ -4,7 +4,8 @@ use mathlib.Core.Path.{_≡_}
 use Prim.Native.Nat.{_+_, _^_, _<_}
 use lib.ListN.{length}
 use Rattle.rules.specs.Number.{digits}
-use Rattle.rules.specs.NumberLaws.{digits-length, one-digit, more-digits}
+use Rattle.rules.specs.NumberLaws.{digits-length, one-digit}
+use Rattle.lines.proofs.Counts.{two-digits, three-digits, four-digits, four-more}
 use Rattle.lines.proofs.number.places.Statement.{statement}
 use Rattle.lines.proofs.number.places.Tie as tie
 
@@ -24,10 +25,28 @@ loop-less : tie.Need-loop-less Inv-loop μ-loop
 loop-less c = omega arith
 
 loop-again : tie.Need-loop-again Inv-loop μ-loop
-loop-again c = omega (arith, more-digits (c .before .loop .rest) (c .loop-test .taken) (c .before .loop .inv .1))
+loop-again c = omega (arith, four-more (c .before .loop .rest) (c .loop-test .taken) (c .before .loop .inv .1))
+
+add-result : tie.Need-add-result Inv-loop μ-loop
+add-result c = let a = c .before .before in omega (arith, digits-length (a .before .args .n))
 
 returns : tie.Need-returns Inv-loop μ-loop
-returns c = omega (arith, one-digit (c .before .loop .rest) (c .loop-test .left), digits-length (c .before .before .args .n))
+returns c = let a = c .before .before in omega (arith, four-digits (a .loop .rest) (c .if1 .taken) (c .before .loop-test .left), digits-length (a .before .args .n))
+
+add-result-2 : tie.Need-add-result-2 Inv-loop μ-loop
+add-result-2 c = let a = c .before .before .before in omega (arith, digits-length (a .before .args .n))
+
+returns-2 : tie.Need-returns-2 Inv-loop μ-loop
+returns-2 c = let a = c .before .before .before in omega (arith, three-digits (a .loop .rest) (c .if2 .taken) (c .before .if1 .left), digits-length (a .before .args .n))
+
+add-result-3 : tie.Need-add-result-3 Inv-loop μ-loop
+add-result-3 c = let a = c .before .before .before .before in omega (arith, digits-length (a .before .args .n))
+
+returns-3 : tie.Need-returns-3 Inv-loop μ-loop
+returns-3 c = let a = c .before .before .before .before in omega (arith, two-digits (a .loop .rest) (c .if3 .taken) (c .before .if2 .left), digits-length (a .before .args .n))
+
+returns-4 : tie.Need-returns-4 Inv-loop μ-loop
+returns-4 c = let a = c .before .before .before .before in omega (arith, one-digit (a .loop .rest) (c .if3 .left), digits-length (a .before .args .n))
 
 pub places-spec : {M : Type 1} → statement M
-places-spec = tie.close (tie.spec Inv-loop μ-loop loop-holds add-k loop-less loop-again returns)
+places-spec = tie.close (tie.spec Inv-loop μ-loop loop-holds add-k loop-less loop-again add-result returns add-result-2 returns-2 add-result-3 returns-3 returns-4)
