@@ -34,6 +34,34 @@ pub front-kept : (out out₀ : List ℕ) (i b : ℕ) → take i out ≡ take i o
 front-kept out out₀ i b e =
     take-set-le (i - 1) out (i - 1) b (omega arith) ∙ sym (take-take (i - 1) i out (omega arith)) ∙ ap (take (i - 1)) e ∙ take-take (i - 1) i out₀ (omega arith)
 
+-- ---- two digits at once
+abbrev pub stored-two : List ℕ → ℕ → ℕ → ℕ → List ℕ
+stored-two out i b c = set (set out (i - 1) c) (i - 2) b
+
+pub spell-two : (out : List ℕ) (rest i : ℕ) → 100 ≤ rest → rest < 2 ^ 64 → 1 < i → i ≤ length out → digits (rest / 100) ++ drop (i - 2) (stored-two out i (48 + rest % 100 / 10) (48 + rest % 10)) ≡ digits rest ++ drop i out
+spell-two out rest i l h p q =
+    let o = set out (i - 1) (48 + rest % 10) in
+    let a : rest / 10 / 10 ≡ rest / 100 = omega arith in
+    let b : rest / 10 % 10 ≡ rest % 100 / 10 = omega arith in
+    let j : i - 1 - 1 ≡ i - 2 = omega arith in
+    let q′ : i - 1 ≤ length o = omega (arith, length-set out (i - 1) (48 + rest % 10)) in
+    let t = spell-turn o (rest / 10) (i - 1) (omega arith) (omega arith) (omega arith) q′ in
+    (rw (a, b, j) at t) ∙ spell-turn out rest i (omega arith) h (omega arith) q
+
+pub spell-last-two : (out : List ℕ) (rest i : ℕ) → 10 ≤ rest → rest < 100 → 1 < i → i ≤ length out → drop (i - 2) (stored-two out i (48 + rest / 10) (48 + rest % 10)) ≡ digits rest ++ drop i out
+spell-last-two out rest i l h p q =
+    let o = set out (i - 1) (48 + rest % 10) in
+    let j : i - 1 - 1 ≡ i - 2 = omega arith in
+    let q′ : i - 1 ≤ length o = omega (arith, length-set out (i - 1) (48 + rest % 10)) in
+    let t = spell-last o (rest / 10) (i - 1) (omega arith) (omega arith) q′ in
+    (rw j at t) ∙ spell-turn out rest i l (omega arith) (omega arith) q
+
+pub front-kept-two : (out out₀ : List ℕ) (i b c : ℕ) → take i out ≡ take i out₀ → take (i - 2) (stored-two out i b c) ≡ take (i - 2) out₀
+front-kept-two out out₀ i b c e =
+    let j : i - 1 - 1 ≡ i - 2 = omega arith in
+    let t = front-kept (set out (i - 1) c) out₀ (i - 1) b (front-kept out out₀ i c e) in
+    rw j at t
+
 -- the two halves of the buffer make what is promised
 pub put-is : (out out₀ : List ℕ) (place : ℕ) (bytes : List ℕ) → take place out ≡ take place out₀ → drop place out ≡ bytes ++ drop (place + length bytes) out₀ → out ≡ put out₀ place bytes
 unfolding put

@@ -65,29 +65,33 @@ pub fn read_number(line: &[u8], place: usize) -> Piece
     Piece::Refused
 }
 
-// How many digits a number has. Four go with each division, as a division costs more than a comparison.
+// How many digits a number has. Four go with each division, as a division costs more than a comparison; a single digit, the common case of a
+// site, costs one comparison.
 pub fn places(n: u64) -> usize
     ensures { λ r. ⌜ (r ≡ length (digits n)) × (r ≤ 20) ⌝ }
 {
+    if n < 10 {
+        return 1;
+    }
     let mut k: usize = 1;
     let mut rest = n;
     while rest >= 10000 {
         rest = rest / 10000;
         k += 4;
     }
-    if rest >= 1000 {
-        return k + 3;
+    if rest < 10 {
+        return k;
     }
-    if rest >= 100 {
-        return k + 2;
-    }
-    if rest >= 10 {
+    if rest < 100 {
         return k + 1;
     }
-    k
+    if rest < 1000 {
+        return k + 2;
+    }
+    k + 3
 }
 
-// Writes a number at a place, from its last digit to its first, and answers the place behind it.
+// Writes a number at a place, from its last digit to its first and two digits with each division, and answers the place behind it.
 pub fn write_number(out: &mut [u8], place: usize, n: u64) -> usize
     requires { ⌜ place + length (digits n) ≤ length (now out) ⌝ }
     ensures { λ r. ⌜ (r ≡ place + length (digits n)) × (now (out .exit) ≡ put (now (out .entry)) place (digits n)) ⌝ }
@@ -95,12 +99,17 @@ pub fn write_number(out: &mut [u8], place: usize, n: u64) -> usize
     let end = place + places(n);
     let mut i = end;
     let mut rest = n;
-    while rest >= 10 {
-        i -= 1;
-        out[i] = 48 + (rest % 10) as u8;
-        rest = rest / 10;
+    while rest >= 100 {
+        out[i - 1] = 48 + (rest % 10) as u8;
+        out[i - 2] = 48 + (rest % 100 / 10) as u8;
+        i -= 2;
+        rest = rest / 100;
     }
-    i -= 1;
-    out[i] = 48 + rest as u8;
+    if rest < 10 {
+        out[i - 1] = 48 + rest as u8;
+        return end;
+    }
+    out[i - 1] = 48 + (rest % 10) as u8;
+    out[i - 2] = 48 + (rest / 10) as u8;
     end
 }

@@ -4,12 +4,13 @@ use borrow.Author.Needs.{needs}
 use native.Mathlib.Omega.{arith}
 use mathlib.Core.Path.{_≡_, refl, sym, ap, _∙_}
 use mathlib.Core.List.{_++_}
-use Prim.Native.Nat.{ℕ, _+_, _-_, _%_, _^_, _≤_, _<_}
+use Prim.Native.Nat.{ℕ, _+_, _-_, _/_, _%_, _^_, _≤_, _<_}
 use lib.ListN.{length, take, drop, set, length-set}
 use denote.Ref.{now}
 use Rattle.rules.specs.Number.{digits}
-use Rattle.rules.specs.NumberLaws.{one-digit, more-digits, digits-some}
-use Rattle.lines.proofs.Spelling.{spell-turn, spell-last, front-kept, put-is}
+use Rattle.rules.specs.NumberLaws.{one-digit, digits-some}
+use Rattle.lines.proofs.Counts.{two-digits, two-more}
+use Rattle.lines.proofs.Spelling.{stored-two, spell-two, spell-last, spell-last-two, front-kept, front-kept-two, put-is}
 use Rattle.lines.proofs.number.write_number.Statement.{statement}
 use Rattle.lines.proofs.number.write_number.Tie as tie
 
@@ -31,36 +32,17 @@ loop-holds c = let s = c .before .before .args in
     let k : s .place + c .places .result ≡ s .place + length (digits (s .n)) = omega arith in
     (ap (λ (j : ℕ). digits (s .n) ++ drop j (now (s .out))) k, refl, k, refl, omega arith, omega arith)
 
-sub-i : tie.Need-sub-i Inv-loop μ-loop
-sub-i c = omega (arith, digits-some (c .before .loop .rest) (c .before .loop .inv .4))
-
 cast-out : tie.Need-cast-out Inv-loop μ-loop
 cast-out c = omega arith
 
 add-out : tie.Need-add-out Inv-loop μ-loop
 add-out c = omega arith
 
+sub-out : tie.Need-sub-out Inv-loop μ-loop
+sub-out c = let l = c .before .loop in omega (arith, two-more (l .rest) (c .loop-test .taken) (l .inv .4))
+
 slice-write-out : tie.Need-slice-write-out Inv-loop μ-loop
-slice-write-out c = omega (arith, digits-some (c .before .loop .rest) (c .before .loop .inv .4))
-
-loop-less : tie.Need-loop-less Inv-loop μ-loop
-loop-less c = omega arith
-
-loop-again : tie.Need-loop-again Inv-loop μ-loop
-loop-again c = let l = c .before .loop in
-    let s = c .before .before .before .before .args in
-    let p : 0 < l .i = omega (arith, digits-some (l .rest) (l .inv .4)) in
-    let m = more-digits (l .rest) (c .loop-test .taken) (l .inv .4) in (
-      spell-turn (l .out) (l .rest) (l .i) (c .loop-test .taken) (l .inv .4) p (omega arith) ∙ l .inv .0,
-      front-kept (l .out) (now (s .out)) (l .i) (48 + l .rest % 10) (l .inv .1),
-      omega arith,
-      simp length-set (l .inv .3),
-      omega arith,
-      omega arith,
-    )
-
-sub-i-2 : tie.Need-sub-i-2 Inv-loop μ-loop
-sub-i-2 c = omega (arith, digits-some (c .before .loop .rest) (c .before .loop .inv .4))
+slice-write-out c = let l = c .before .loop in omega (arith, two-more (l .rest) (c .loop-test .taken) (l .inv .4))
 
 cast-out-2 : tie.Need-cast-out-2 Inv-loop μ-loop
 cast-out-2 c = omega arith
@@ -68,22 +50,94 @@ cast-out-2 c = omega arith
 add-out-2 : tie.Need-add-out-2 Inv-loop μ-loop
 add-out-2 c = omega arith
 
+sub-out-2 : tie.Need-sub-out-2 Inv-loop μ-loop
+sub-out-2 c = let l = c .before .loop in omega (arith, two-more (l .rest) (c .loop-test .taken) (l .inv .4))
+
 slice-write-out-2 : tie.Need-slice-write-out-2 Inv-loop μ-loop
-slice-write-out-2 c = omega (arith, digits-some (c .before .loop .rest) (c .before .loop .inv .4))
+slice-write-out-2 c = let l = c .before .loop in omega (arith, length-set (l .out) (l .i - 1) (48 + l .rest % 10), two-more (l .rest) (c .loop-test .taken) (l .inv .4))
+
+sub-i : tie.Need-sub-i Inv-loop μ-loop
+sub-i c = let l = c .before .loop in omega (arith, two-more (l .rest) (c .loop-test .taken) (l .inv .4))
+
+loop-less : tie.Need-loop-less Inv-loop μ-loop
+loop-less c = omega arith
+
+loop-again : tie.Need-loop-again Inv-loop μ-loop
+loop-again c = let l = c .before .loop in
+    let s = c .before .before .before .before .args in
+    let m = two-more (l .rest) (c .loop-test .taken) (l .inv .4) in (
+      spell-two (l .out) (l .rest) (l .i) (c .loop-test .taken) (l .inv .4) (omega arith) (omega arith) ∙ l .inv .0,
+      front-kept-two (l .out) (now (s .out)) (l .i) (48 + l .rest % 100 / 10) (48 + l .rest % 10) (l .inv .1),
+      omega arith,
+      simp length-set (l .inv .3),
+      omega arith,
+      omega arith,
+    )
+
+cast-out-3 : tie.Need-cast-out-3 Inv-loop μ-loop
+cast-out-3 c = omega arith
+
+add-out-3 : tie.Need-add-out-3 Inv-loop μ-loop
+add-out-3 c = omega arith
+
+sub-out-3 : tie.Need-sub-out-3 Inv-loop μ-loop
+sub-out-3 c = let l = c .before .before .loop in omega (arith, one-digit (l .rest) (c .if1 .taken))
+
+slice-write-out-3 : tie.Need-slice-write-out-3 Inv-loop μ-loop
+slice-write-out-3 c = let l = c .before .before .loop in omega (arith, one-digit (l .rest) (c .if1 .taken))
 
 same-length : tie.Need-same-length Inv-loop μ-loop
-same-length c = simp length-set (c .before .loop .inv .3)
+same-length c = simp length-set (c .before .before .loop .inv .3)
 
 returns : tie.Need-returns Inv-loop μ-loop
-returns c = let l = c .before .loop in
-    let s = c .before .before .before .before .args in
-    let one = one-digit (l .rest) (c .loop-test .left) in
+returns c = let l = c .before .before .loop in
+    let s = c .before .before .before .before .before .args in
+    let m = one-digit (l .rest) (c .if1 .taken) in
     let z : l .i - 1 ≡ s .place = omega arith in
     let out = set (l .out) (l .i - 1) (48 + l .rest) in (
       omega arith,
       put-is out (now (s .out)) (s .place) (digits (s .n))
           (ap (λ (k : ℕ). take k out) (sym z) ∙ front-kept (l .out) (now (s .out)) (l .i) (48 + l .rest) (l .inv .1) ∙ ap (λ (k : ℕ). take k (now (s .out))) z)
-          (ap (λ (k : ℕ). drop k out) (sym z) ∙ spell-last (l .out) (l .rest) (l .i) (c .loop-test .left) (omega arith) (omega arith) ∙ l .inv .0),
+          (ap (λ (k : ℕ). drop k out) (sym z) ∙ spell-last (l .out) (l .rest) (l .i) (c .if1 .taken) (omega arith) (omega arith) ∙ l .inv .0),
+    )
+
+cast-out-4 : tie.Need-cast-out-4 Inv-loop μ-loop
+cast-out-4 c = omega arith
+
+add-out-4 : tie.Need-add-out-4 Inv-loop μ-loop
+add-out-4 c = omega arith
+
+sub-out-4 : tie.Need-sub-out-4 Inv-loop μ-loop
+sub-out-4 c = let l = c .before .before .loop in omega (arith, two-digits (l .rest) (c .if1 .left) (c .before .loop-test .left))
+
+slice-write-out-4 : tie.Need-slice-write-out-4 Inv-loop μ-loop
+slice-write-out-4 c = let l = c .before .before .loop in omega (arith, two-digits (l .rest) (c .if1 .left) (c .before .loop-test .left))
+
+cast-out-5 : tie.Need-cast-out-5 Inv-loop μ-loop
+cast-out-5 c = omega arith
+
+add-out-5 : tie.Need-add-out-5 Inv-loop μ-loop
+add-out-5 c = omega arith
+
+sub-out-5 : tie.Need-sub-out-5 Inv-loop μ-loop
+sub-out-5 c = let l = c .before .before .loop in omega (arith, two-digits (l .rest) (c .if1 .left) (c .before .loop-test .left))
+
+slice-write-out-5 : tie.Need-slice-write-out-5 Inv-loop μ-loop
+slice-write-out-5 c = let l = c .before .before .loop in omega (arith, length-set (l .out) (l .i - 1) (48 + l .rest % 10), two-digits (l .rest) (c .if1 .left) (c .before .loop-test .left))
+
+same-length-2 : tie.Need-same-length-2 Inv-loop μ-loop
+same-length-2 c = simp length-set (c .before .before .loop .inv .3)
+
+returns-2 : tie.Need-returns-2 Inv-loop μ-loop
+returns-2 c = let l = c .before .before .loop in
+    let s = c .before .before .before .before .before .args in
+    let m = two-digits (l .rest) (c .if1 .left) (c .before .loop-test .left) in
+    let z : l .i - 2 ≡ s .place = omega arith in
+    let out = stored-two (l .out) (l .i) (48 + l .rest / 10) (48 + l .rest % 10) in (
+      omega arith,
+      put-is out (now (s .out)) (s .place) (digits (s .n))
+          (ap (λ (k : ℕ). take k out) (sym z) ∙ front-kept-two (l .out) (now (s .out)) (l .i) (48 + l .rest / 10) (48 + l .rest % 10) (l .inv .1) ∙ ap (λ (k : ℕ). take k (now (s .out))) z)
+          (ap (λ (k : ℕ). drop k out) (sym z) ∙ spell-last-two (l .out) (l .rest) (l .i) (c .if1 .left) (c .before .loop-test .left) (omega arith) (omega arith) ∙ l .inv .0),
     )
 
 pub write-number-spec : {M : Type 1} → statement M
@@ -95,15 +149,30 @@ write-number-spec =
     places-requires
     add-end
     loop-holds
-    sub-i
     cast-out
     add-out
+    sub-out
     slice-write-out
-    loop-less
-    loop-again
-    sub-i-2
     cast-out-2
     add-out-2
+    sub-out-2
     slice-write-out-2
+    sub-i
+    loop-less
+    loop-again
+    cast-out-3
+    add-out-3
+    sub-out-3
+    slice-write-out-3
     same-length
-    returns)
+    returns
+    cast-out-4
+    add-out-4
+    sub-out-4
+    slice-write-out-4
+    cast-out-5
+    add-out-5
+    sub-out-5
+    slice-write-out-5
+    same-length-2
+    returns-2)
