@@ -1,4 +1,4 @@
--- The contract of `printed`: what is printed fits the buffer, so that a caller can take that part of it, and two results that meet the contract are equal.
+-- The contract of `printed`: what is printed fits the buffer, so that a caller can take that part of it.
 -- Assumes nothing.
 use Prim.Native.Nat.{ℕ, _≤_}
 use native.Mathlib.Omega.{arith}
@@ -9,7 +9,6 @@ use lib.Seq.{length-take-le}
 use borrow.Author.Tests.{lt-ltb, le-ltb}
 use Rattle.rules.specs.NumberLaws.{below}
 use Rattle.rules.specs.Put.{put-length}
-use Rattle.rules.specs.Determined.{one-result}
 use Rattle.rules.specs.Reports.{inputLimit, reportRoom, printedOf, printedFor, Printed}
 use Rattle.rules.specs.ReportLaws.{report-fits}
 
@@ -35,7 +34,3 @@ printed-fits {input} {before} p =
 
 pub printed-part : {input before : List ℕ} {n : ℕ} {after : List ℕ} → Printed input before n after → n ≡ length (take n after)
 printed-part {input} {before} {n} {after} p = sym (length-take-le n after (printed-fits p))
-
--- "two results which both satisfy it are equal": one count and one buffer
-pub printed-determined : (input before : List ℕ) {n n′ : ℕ} {now now′ : List ℕ} → Printed input before n now → Printed input before n′ now′ → (n ≡ n′) × (now ≡ now′)
-printed-determined input before a b = (one-result (a .count) (b .count), one-result (a .bytes) (b .bytes))
