@@ -46,9 +46,9 @@ loop-holds c =
     let r = c .before .reaches .ensures in (
       h .0,
       ⊎-elim
-      (λ v. rw (v .1, one-shifted _ (h .0)) (first-up w _ _ _ (omega arith) (omega (arith, w .room)) (h .1 .0) (h .1 .1) (sym (rw (one-shifted _ (h .0)) at r) ∙ v .0 .taken)))
-      (λ v. rw (v .1) (first-stay w _ _ _ (omega arith) (omega (arith, w .room)) (h .1 .0) (h .1 .1) (sym (rw (one-shifted _ (h .0)) at r) ∙ v .0 .left)))
-      (c .if2 .came),
+          (λ v. rw (v .1, one-shifted _ (h .0)) (first-up w _ _ _ (omega arith) (omega (arith, w .room)) (h .1 .0) (h .1 .1) (sym (rw (one-shifted _ (h .0)) at r) ∙ v .0 .taken)))
+          (λ v. rw (v .1) (first-stay w _ _ _ (omega arith) (omega (arith, w .room)) (h .1 .0) (h .1 .1) (sym (rw (one-shifted _ (h .0)) at r) ∙ v .0 .left)))
+          (c .if2 .came),
     )
 
 sub-k : tie.Need-sub-k Inv-loop μ-loop
