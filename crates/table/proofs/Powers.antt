@@ -4,7 +4,7 @@ use Prim.Native.Nat.{ℕ, zero, suc, _+_, _*_, _-_, _%_, _^_, _≤_, _<_}
 use native.Mathlib.Nat.{pow-suc}
 use native.Mathlib.Omega.{arith}
 use mathlib.Core.Bool.{Bool, true, false, _&&_, not, cond}
-use mathlib.Core.Path.{_≡_, refl, sym, ap, _∙_}
+use mathlib.Core.Path.{_≡_, sym, _∙_}
 use mathlib.Core.List.{List}
 use lib.ListN.{length}
 use lib.Dec.{leb, eqb}
@@ -47,7 +47,7 @@ highest n p h =
 
 module _ {most : ℕ} {t : List ℕ} {k : ℕ} (w : Laid most t k) (x : ℕ) where
   -- the first place looked at leaves a power of two, at the end of the table or at its start
-  module _ (n e : ℕ) (room : 2 * n ≤ length t) (all : k ≤ n) (lo : 2 ^ e ≤ n) (hi : n < 2 * 2 ^ e) where
+  module _ (n e : ℕ) (room : 2 * n ≤ length t) (all : k ≤ n) (lo : 2 ^ e ≤ n) (hi : n ≤ 2 * 2 ^ e) where
     pub first-up : not (eqb (lengthAt t (n - 2 ^ e)) 0) && leb (idAt t (n - 2 ^ e)) x ≡ true → Span t k x (n - 2 ^ e) (2 ^ e)
     first-up h =
         let one : 1 ≤ 2 ^ e = positive e in

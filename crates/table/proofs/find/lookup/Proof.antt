@@ -1,6 +1,6 @@
--- `table::find::lookup`: `Span` is what halving keeps.
+-- `table::find::lookup`: `Span` is what halving keeps, its size a power of two.
 -- Assumes nothing.
-use Prim.Native.Nat.{ℕ, _+_, _*_, _-_, _^_, _≤_, _<_}
+use Prim.Native.Nat.{_-_, _^_, _<_}
 use mathlib.Core.Path.{_≡_, sym, _∙_}
 use mathlib.Core.Logic.{⊎-elim}
 use Rattle.rules.specs.Lengths.{M}
@@ -43,11 +43,11 @@ loop-holds : tie.Need-loop-holds Inv-loop μ-loop
 loop-holds c =
     let h = c .before .before .halvings .ensures in
     let w = laid-of M _ (c .before .before .before .before .before .pre) in
-    let r = c .before .reaches .ensures in (
+    let r = rw (one-shifted _ (h .0)) at (c .before .reaches .ensures) in (
       h .0,
       ⊎-elim
-          (λ v. rw (v .1, one-shifted _ (h .0)) (first-up w _ _ _ (omega arith) (omega (arith, w .room)) (h .1 .0) (h .1 .1) (sym (rw (one-shifted _ (h .0)) at r) ∙ v .0 .taken)))
-          (λ v. rw (v .1) (first-stay w _ _ _ (omega arith) (omega (arith, w .room)) (h .1 .0) (h .1 .1) (sym (rw (one-shifted _ (h .0)) at r) ∙ v .0 .left)))
+          (λ v. rw (v .1, one-shifted _ (h .0)) (first-up w _ _ _ (omega arith) (omega (arith, w .room)) (h .1 .0) (h .1 .1) (sym r ∙ v .0 .taken)))
+          (λ v. rw (v .1) (first-stay w _ _ _ (omega arith) (omega (arith, w .room)) (h .1 .0) (h .1 .1) (sym r ∙ v .0 .left)))
           (c .if2 .came),
     )
 
@@ -123,12 +123,16 @@ shared-slice-read-if3-2 c = search needs
 returns-2 : tie.Need-returns-2 Inv-loop μ-loop
 returns-2 c =
     let l = c .before .before .before .before .before in
-    span-found (laid-of M _ (l .before .before .before .before .before .before .pre)) _ _ _ (l .loop .inv .1) (last (l .loop .k) (c .before .before .before .before .loop-test .left)) (c .if3 .taken)
+    let w = laid-of M _ (l .before .before .before .before .before .before .pre) in
+    let e = last (l .loop .k) (c .before .before .before .before .loop-test .left) in
+    span-found w _ _ _ (l .loop .inv .1) e (c .if3 .taken)
 
 returns-3 : tie.Need-returns-3 Inv-loop μ-loop
 returns-3 c =
     let l = c .before .before .before .before .before in
-    span-none (laid-of M _ (l .before .before .before .before .before .before .pre)) _ _ _ (l .loop .inv .1) (last (l .loop .k) (c .before .before .before .before .loop-test .left)) (c .if3 .left)
+    let w = laid-of M _ (l .before .before .before .before .before .before .pre) in
+    let e = last (l .loop .k) (c .before .before .before .before .loop-test .left) in
+    span-none w _ _ _ (l .loop .inv .1) e (c .if3 .left)
 
 pub lookup-spec : {M : Type 1} → statement M
 lookup-spec =
