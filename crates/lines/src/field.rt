@@ -15,7 +15,7 @@ ghost use Rattle.rules.specs.LinePlaces.{fieldAt};
 ghost use Rattle.rules.specs.Put.{put};
 
 // The number behind its name, and the place behind it. One that is not used is 0 and takes no byte.
-pub fn read_field(used: bool, name: &[u8], line: &[u8], place: usize) -> Piece
+pub(crate) fn read_field(used: bool, name: &[u8], line: &[u8], place: usize) -> Piece
     requires { ⌜ place ≤ length (now line) ⌝ }
     ensures { λ r. ⌜ r ≡ fieldAt used (now (name .entry)) (now (line .entry)) place ⌝ }
 {
@@ -29,7 +29,7 @@ pub fn read_field(used: bool, name: &[u8], line: &[u8], place: usize) -> Piece
 }
 
 // How many bytes the number takes with its name.
-pub fn field_len(used: bool, n: u64) -> usize
+pub(crate) fn field_len(used: bool, n: u64) -> usize
     ensures { λ r. ⌜ (r ≡ cond used (4 + length (digits n)) 0) × (r ≤ 24) ⌝ }
 {
     if used {
@@ -39,7 +39,7 @@ pub fn field_len(used: bool, n: u64) -> usize
 }
 
 // Writes the number behind its name at a place, and answers the place behind it.
-pub fn write_field(out: &mut [u8], place: usize, used: bool, name: &[u8], n: u64) -> usize
+pub(crate) fn write_field(out: &mut [u8], place: usize, used: bool, name: &[u8], n: u64) -> usize
     requires { ⌜ place + length (field used (now name) n) ≤ length (now out) ⌝ }
     ensures { λ r. ⌜ (r ≡ place + length (field used (now (name .entry)) n)) × (now (out .exit) ≡ put (now (out .entry)) place (field used (now (name .entry)) n)) ⌝ }
 {

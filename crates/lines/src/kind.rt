@@ -10,7 +10,7 @@ ghost use Rattle.rules.specs.LinePlaces.{kindAt};
 ghost use Rattle.rules.specs.Put.{put};
 
 // How many bytes stand before the first number of a line.
-pub fn lead_len(kind: u64) -> usize
+pub(crate) fn lead_len(kind: u64) -> usize
     requires { ⌜ (1 ≤ kind) × (kind ≤ 8) ⌝ }
     ensures { λ r. ⌜ (r ≡ length (lead kind)) × (r ≤ 18) ⌝ }
 {
@@ -68,7 +68,7 @@ fn lead_text(kind: u64) -> [u8; 18]
 }
 
 // Writes the lead of a kind at the front of a buffer, and answers how many bytes it has.
-pub fn write_lead(out: &mut [u8], kind: u64) -> usize
+pub(crate) fn write_lead(out: &mut [u8], kind: u64) -> usize
     requires { ⌜ (1 ≤ kind) × (kind ≤ 8) × (length (lead kind) ≤ length (now out)) ⌝ }
     ensures { λ r. ⌜ (r ≡ length (lead kind)) × (now (out .exit) ≡ put (now (out .entry)) 0 (lead kind)) ⌝ }
 {
@@ -106,7 +106,7 @@ fn only_kind(a: u8, b: u8) -> u64
 }
 
 // The kind of a line, and the place behind its lead. Two bytes leave one kind, so a line is held to one lead and not to eight.
-pub fn read_kind(line: &[u8]) -> Piece
+pub(crate) fn read_kind(line: &[u8]) -> Piece
     ensures { λ r. ⌜ r ≡ kindAt (now (line .entry)) ⌝ }
 {
     if line.len() < 7 {
@@ -122,14 +122,14 @@ pub fn read_kind(line: &[u8]) -> Piece
 }
 
 // Whether a line of a kind names a second site: send and merge do.
-pub fn has_second(kind: u64) -> bool
+pub(crate) fn has_second(kind: u64) -> bool
     ensures { λ r. ⌜ r ≡ hasSecond kind ⌝ }
 {
     kind == 4 || kind == 5
 }
 
 // Whether a line of a kind names an id: add, remove, query and send do.
-pub fn has_id(kind: u64) -> bool
+pub(crate) fn has_id(kind: u64) -> bool
     ensures { λ r. ⌜ r ≡ hasId kind ⌝ }
 {
     kind <= 4

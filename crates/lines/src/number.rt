@@ -36,7 +36,7 @@ fn is_fair(first: u8, count: usize, v: u64) -> bool
 }
 
 // The number that stands at a place of a line, and the place behind it. A value that leaves 64 bits is refused at the digit that does it.
-pub fn read_number(line: &[u8], place: usize) -> Piece
+pub(crate) fn read_number(line: &[u8], place: usize) -> Piece
     ensures { λ r. ⌜ r ≡ numberAt (now (line .entry)) place ⌝ }
 {
     let mut v: u64 = 0;

@@ -25,7 +25,7 @@ fn is_proper(used: bool, n: u64) -> bool
 }
 
 // Whether four numbers name a step. Any first number does: "Sizes of sites and slots are not judged here."
-pub fn names_step(kind: u64, second: u64, id: u64) -> bool
+pub(crate) fn names_step(kind: u64, second: u64, id: u64) -> bool
     ensures { λ r. ⌜ r ≡ namesStep kind second id ⌝ }
 {
     if kind < 1 {

@@ -7,7 +7,7 @@ ghost use Rattle.rules.specs.LinePlaces.{textAt};
 ghost use Rattle.rules.specs.Put.{put};
 
 // The place behind a piece of text, where the piece stands at a place of the line.
-pub fn read_text(line: &[u8], place: usize, text: &[u8]) -> Piece
+pub(crate) fn read_text(line: &[u8], place: usize, text: &[u8]) -> Piece
     requires { ⌜ place ≤ length (now line) ⌝ }
     ensures { λ r. ⌜ r ≡ textAt (now (line .entry)) place (now (text .entry)) ⌝ }
 {
