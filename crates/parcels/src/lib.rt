@@ -4,10 +4,11 @@ use rules::M;
 use rules::Parcel;
 use rules::Scan;
 ghost use mathlib.Core.Path.{_≡_};
-ghost use Prim.Native.Nat.{_<_, _^_, min};
+ghost use mathlib.Core.Bool.{cond};
+ghost use Prim.Native.Nat.{_≤_, _<_, _^_, min};
 ghost use lib.ListN.{set, getD};
 ghost use Rattle.rules.specs.Lengths.{M};
-ghost use Rattle.rules.specs.Parcels.{noParcel, isFree, isOccupied, scanOf, cleared};
+ghost use Rattle.rules.specs.Parcels.{noParcel, isFree, isOccupied, lowestFree, scanOf, cleared};
 ghost use Rattle.parcels.specs.Turns.{lookOf};
 
 // Whether a slot is free. There is no early exit, here and below: a scan then has few branches to guess.
@@ -66,6 +67,36 @@ pub fn scan_slots(slots: &[Parcel], sites: u64) -> Scan
         i += 1;
     }
     s
+}
+
+// Where a search for a free slot ends once the slot at `at` is seen: there, where it is free, and else where it was to end.
+fn ends_at(p: Parcel, at: usize, end: usize) -> usize
+    ensures { λ r. ⌜ r ≡ cond (isFree p) at end ⌝ }
+{
+    let here = is_free(p);
+    if here { at } else { end }
+}
+
+// How many slots a search may see.
+fn to_search(wanted: bool, n: usize) -> usize
+    ensures { λ r. ⌜ r ≡ cond wanted n 0 ⌝ }
+{
+    if wanted { n } else { 0 }
+}
+
+// The lowest free slot, or the number of slots where none is free; 0 where none is wanted, and then no slot is looked at. Below `low` no slot is free, so
+// the search begins there, and it ends at the slot that it finds.
+pub fn lowest_free(slots: &[Parcel], wanted: bool, low: usize) -> usize
+    requires { ⌜ low ≤ lowestFree (now slots) ⌝ }
+    ensures { λ r. ⌜ r ≡ cond wanted (lowestFree (now (slots .entry))) 0 ⌝ }
+{
+    let mut end = to_search(wanted, slots.len());
+    let mut i = low;
+    while i < end {
+        end = ends_at(slots[i], i, end);
+        i += 1;
+    }
+    end
 }
 
 // The parcel in a slot. Past the end there is none, so that no caller has a number of slots to compare with.

@@ -51,6 +51,9 @@ pub mod Offering
 pub mod Room
 pub mod RoomCases
 pub mod Calls
+pub mod Acts
+pub mod Bursts
+pub mod BurstLaws
 pub mod Promises
 pub mod ReportParts
 pub mod ReportLaws

@@ -69,14 +69,13 @@ slotOf (Deliver i) = i
 slotOf (Again i) = i
 slotOf (Lose i) = i
 
--- what one pass over them tells, the parcel in the slot that the step names, and how many slots there are; and the ledger
+-- what one pass over the slots tells, a parcel that is looked at, and how many slots there are; and the ledger
+abbrev pub sightWith : Parcel → Run → State → Sight
+sightWith named run s = record { scan = scanOf M (run .sites) (s .slots); named = named; count = length (s .slots); ledger = s .ledger }
+
+-- with the parcel in the slot that the step names
 abbrev pub sightOf : Run → State → Step → Sight
-sightOf run s step = record {
-  scan = scanOf M (run .sites) (s .slots);
-  named = getD (s .slots) (slotOf step) noParcel;
-  count = length (s .slots);
-  ledger = s .ledger;
-}
+sightOf run s step = sightWith (getD (s .slots) (slotOf step) noParcel) run s
 
 -- ---- the refusals: a number with its condition, in the order of the tests
 pub record Test : Type 0 where
@@ -143,9 +142,11 @@ stepTests run ws si (Again i) = (5 when nothingThere run si i) ∷ (9 when noFre
 stepTests run ws si (Lose i) = (5 when nothingThere run si i) ∷ (10 when eqb (si .ledger .lost) M) ∷ []
 
 -- "1 and 2 judge all three", before anything else
+abbrev pub judgeTests : Run → List ℕ → Sight → List Test
+judgeTests run ws si = (1 when not (sizesRight run (length ws) (si .count))) ∷ (2 when not (allSound run ws si)) ∷ []
+
 unfoldable pub refusalIn : Run → List ℕ → Sight → Step → ℕ
-refusalIn run ws si step =
-    firstGiven ((1 when not (sizesRight run (length ws) (si .count))) ∷ (2 when not (allSound run ws si)) ∷ stepTests run ws si step)
+refusalIn run ws si step = firstGiven (judgeTests run ws si ++ stepTests run ws si step)
 
 -- ---- what an accepted step returns, and what it changes
 unfoldable pub valueIn : Run → List ℕ → Sight → Step → ℕ

@@ -14,12 +14,12 @@ use Rattle.rules.specs.Lengths.{M}
 use Rattle.rules.specs.Operations.{unlessRefused}
 use Rattle.rules.specs.Runs.{width, sizesRight, tablesSound, allSound, firstGiven, stepTests, refusalIn, wordsIn}
 use Rattle.sites.specs.declared.verdict.Verdict.{Verdict}
-use Rattle.sites.specs.Verdicts.{Ready, judgement, refusedVerdict, verdictBy, stepRefusal, stepVerdict, stepWords}
+use Rattle.sites.specs.Verdicts.{Ready, judgement, refusedVerdict, stepRefusal, stepVerdict, stepWords, verdictUnder, wordsUnder}
 use Rattle.sites.proofs.Judging.{sized}
 
 module _ (run : Run) (ws : List ℕ) (si : Sight) where
   -- both tests passed
-  passed : judgement run ws si ≡ 0 → (sizesRight run (length ws) (si .count) ≡ true) × (allSound run ws si ≡ true)
+  pub passed : judgement run ws si ≡ 0 → (sizesRight run (length ws) (si .count) ≡ true) × (allSound run ws si ≡ true)
   unfolding judgement firstGiven
   passed h = go (sizesRight run (length ws) (si .count)) refl (allSound run ws si) refl
     where
@@ -29,15 +29,8 @@ module _ (run : Run) (ws : List ℕ) (si : Sight) where
       go true p false q = absurd (suc-ne-zero 1 (rw (p, q) at h))
       go false p b q = absurd (suc-ne-zero 0 (rw p at h))
 
-  pub ready-of : judgement run ws si ≡ 0 → Ready run ws
-  unfolding allSound
-  ready-of h = record {
-    sized = sized run (length ws) (si .count) (passed h .0);
-    tables = parts (tablesSound M (width run) (run .sites) ws) _ (passed h .1) .0;
-  }
-
   module _ (step : Step) where
-    refusal-judged : (judgement run ws si ≡ 0 → ⊥) → refusalIn run ws si step ≡ judgement run ws si
+    pub refusal-judged : (judgement run ws si ≡ 0 → ⊥) → refusalIn run ws si step ≡ judgement run ws si
     unfolding refusalIn judgement firstGiven
     refusal-judged h = go (sizesRight run (length ws) (si .count)) refl (allSound run ws si) refl
       where
@@ -46,24 +39,20 @@ module _ (run : Run) (ws : List ℕ) (si : Sight) where
         go true p false q = rw (p, q)
         go false p b q = rw p
 
-    refusal-own : judgement run ws si ≡ 0 → refusalIn run ws si step ≡ stepRefusal run ws si step
+    pub refusal-own : judgement run ws si ≡ 0 → refusalIn run ws si step ≡ stepRefusal run ws si step
     unfolding refusalIn stepRefusal firstGiven
     refusal-own h = rw (passed h .0, passed h .1)
 
-    -- refused by the judge
-    pub judged-out : (judgement run ws si ≡ 0 → ⊥)
-        → (refusedVerdict (judgement run ws si) (si .count) ≡ verdictBy (refusalIn run ws si step) run ws si step) × (ws ≡ unlessRefused (refusalIn run ws si step) ws (wordsIn run ws si step))
-    judged-out h = go (judgement run ws si) refl
-      where
-        go : (r : ℕ) → judgement run ws si ≡ r
-            → (refusedVerdict (judgement run ws si) (si .count) ≡ verdictBy (refusalIn run ws si step) run ws si step) × (ws ≡ unlessRefused (refusalIn run ws si step) ws (wordsIn run ws si step))
-        go zero e = absurd (h e)
-        go (suc r) e = rw (refusal-judged h, e) (refl, refl)
+    -- refused before
+    pub under-out : (r : ℕ) → (r ≡ 0 → ⊥) → (refusedVerdict r (si .count) ≡ verdictUnder r run ws si step) × (ws ≡ wordsUnder r run ws si step)
+    unfolding verdictUnder wordsUnder
+    under-out zero h = absurd (h refl)
+    under-out (suc r) h = (refl, refl)
 
-    -- let through by the judge
-    pub judged-in : judgement run ws si ≡ 0
-        → (stepVerdict run ws si step ≡ verdictBy (refusalIn run ws si step) run ws si step) × (stepWords run ws si step ≡ unlessRefused (refusalIn run ws si step) ws (wordsIn run ws si step))
-    judged-in h = rw (refusal-own h) (refl, refl)
+    -- refused by nothing before
+    pub under-in : (r : ℕ) → r ≡ 0 → (stepVerdict run ws si step ≡ verdictUnder r run ws si step) × (stepWords run ws si step ≡ wordsUnder r run ws si step)
+    unfolding verdictUnder wordsUnder
+    under-in r h = rw h (refl, refl)
 
     -- a step that leaves the words
     pub still-words : wordsIn run ws si step ≡ ws → ws ≡ stepWords run ws si step

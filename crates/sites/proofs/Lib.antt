@@ -8,3 +8,4 @@ pub mod Deciding
 pub mod Lending
 pub mod Outcomes
 pub mod Beginning
+pub mod OnAct

@@ -1,29 +1,36 @@
--- From what the callees of `lent` ensure to what `lent` ensures: the one place that knows how the contracts of `step` and `fresh` are put.
+-- From what the callees of `lent` ensure to what `lent` ensures: the one place that knows how the contracts of `act`, `step` and `fresh` are put.
 -- The callees' results are variables here, each with what its contract says of it.
 -- Assumes nothing.
-use Prim.Native.Nat.{ℕ, zero, suc}
-use native.Mathlib.Nat.{le-refl}
+use Prim.Native.Nat.{ℕ, zero, suc, _≤_}
+use native.Mathlib.Nat.{le-refl, suc-ne-zero}
 use native.Mathlib.Omega.{arith}
-use mathlib.Core.Bool.{cond}
-use mathlib.Core.Path.{_≡_, refl}
+use mathlib.Core.Bool.{Bool, cond}
+use mathlib.Core.Path.{_≡_, refl, sym, _∙_}
 use mathlib.Core.List.{List}
 use lib.Dec.{eqb}
 use lib.ListN.{length, set, getD, replicate}
 use lib.Seq.{set-out}
 use borrow.Author.Tests.{ne-eqb}
+use Rattle.rules.specs.declared.Answer.{Answer}
 use Rattle.rules.specs.declared.Ledger.{Ledger}
 use Rattle.rules.specs.declared.Parcel.{Parcel}
 use Rattle.rules.specs.declared.Run.{Run}
 use Rattle.rules.specs.declared.Scan.{Scan}
 use Rattle.rules.specs.declared.Step.{Step}
+use Rattle.rules.specs.declared.Step.the-variants.{Add, Remove, Query, Send, Merge, Deliver, Again, Lose}
+use Rattle.rules.specs.View.{parts}
 use Rattle.rules.specs.Lengths.{M}
 use Rattle.rules.specs.Operations.{answer, unlessRefused}
 use Rattle.rules.specs.Ledgers.{raisedLedger, emptiedIf}
 use Rattle.rules.specs.LedgerLaws.{raised-none}
-use Rattle.rules.specs.Parcels.{noParcel, scanOf, cleared}
-use Rattle.rules.specs.Runs.{lent, slotOf, sightOf, refusalIn, wordsIn, refusalOf, valueOf, stateBy, after, freshRefusal, empty, afterFresh, Stepped, Freshened}
+use Rattle.rules.specs.Parcels.{noParcel, slotsSound, lowestFree, scanOf, cleared}
+use Rattle.rules.specs.Runs.{State, lent, width, tablesSound, allSound, slotOf, sightOf, refusalIn, valueIn, wordsIn, placeIn, parcelIn, refusalOf, valueOf, stateBy, after, freshRefusal, empty, afterFresh, Stepped, Freshened}
 use Rattle.sites.specs.declared.verdict.Verdict.{Verdict}
-use Rattle.sites.specs.Verdicts.{verdictBy, verdictOf, wordsOf, answerIn, freshWords, slotsToClear}
+use Rattle.rules.specs.RunLaws.{StateSound, sound-judged}
+use Rattle.sites.specs.Verdicts.{Ready, seenAs, judgement, stepRefusal, stepVerdict, stepWords, verdictBy, needsSlot, lookedAt, verdictUnder, wordsUnder, answerIn, freshWords, slotsToClear}
+use Rattle.rules.specs.Acts.{judgedOf, answerUnder, afterUnder, Acted}
+use Rattle.sites.proofs.Judging.{sized}
+use Rattle.sites.proofs.Deciding.{passed, refusal-judged}
 
 module _ (run : Run) (ws : List ℕ) (ss : List Parcel) (l : Ledger) (step : Step) where
   -- the verdict on what is lent, by its refusal
@@ -40,14 +47,81 @@ module _ (run : Run) (ws : List ℕ) (ss : List Parcel) (l : Ledger) (step : Ste
     state = rw (e, f, z, set-out ss (length ss) noParcel (le-refl (length ss)), raised-none M l) refl;
   }
 
-pub stepped : (sizes : Run) (ws : List ℕ) (ss : List Parcel) (l : Ledger) (asked : Step) (at : ℕ) (held : Parcel) (scan : Scan) (v : Verdict) (ws′ : List ℕ) (ss′ : List Parcel) (l′ : Ledger)
-    → at ≡ slotOf asked → held ≡ getD ss at noParcel → scan ≡ scanOf M (sizes .sites) ss
-    → (v ≡ verdictOf sizes ws scan held (length ss) l asked) × (ws′ ≡ wordsOf sizes ws scan held (length ss) l asked)
+-- a step sees as much through what `act` looks at as through a pass over all the slots
+module _ (run : Run) (ws : List ℕ) (ss : List Parcel) (l : Ledger) where
+  abbrev Same : Step → ℕ → Type 0
+  Same step free =
+      (stepVerdict run ws (lookedAt free (getD ss (slotOf step) noParcel) (length ss) l) step ≡ stepVerdict run ws (sightOf run (lent ws ss l) step) step)
+      × (stepWords run ws (lookedAt free (getD ss (slotOf step) noParcel) (length ss) l) step ≡ stepWords run ws (sightOf run (lent ws ss l) step) step)
+
+  same-sight : (step : Step) (free : ℕ) → free ≡ cond (needsSlot step) (lowestFree ss) 0 → Same step free
+  unfolding needsSlot stepRefusal valueIn wordsIn placeIn parcelIn
+  same-sight (Add k e) free h = (refl, refl)
+  same-sight (Remove k e) free h = (refl, refl)
+  same-sight (Query k e) free h = (refl, refl)
+  same-sight (Send f t e) free h = rw h (refl, refl)
+  same-sight (Merge f t) free h = (refl, refl)
+  same-sight (Deliver i) free h = (refl, refl)
+  same-sight (Again i) free h = rw h (refl, refl)
+  same-sight (Lose i) free h = (refl, refl)
+
+  -- by what has refused the step before
+  by-refused : (step : Step) (free : ℕ) → free ≡ cond (needsSlot step) (lowestFree ss) 0 → (refused : ℕ) → (refused ≡ 0 → StateSound run (lent ws ss l)) → (v : Verdict) → v ≡ verdictUnder refused run ws (lookedAt free (getD ss (slotOf step) noParcel) (length ss) l) step
+      → (ws′ : List ℕ) → ws′ ≡ wordsUnder refused run ws (lookedAt free (getD ss (slotOf step) noParcel) (length ss) l) step
+      → Acted refused run (lent ws ss l) step (answerIn v) (lent ws′ (set ss (v .at) (v .parcel)) (raisedLedger M (v .counter) l))
+  unfolding verdictUnder wordsUnder answerUnder afterUnder refusalOf stepRefusal
+  by-refused step free h zero clear v e ws′ f =
+      let same = same-sight step free h in
+      let own : refusalIn run ws (sightOf run (lent ws ss l) step) step ≡ stepRefusal run ws (sightOf run (lent ws ss l) step) step = sound-judged run (lent ws ss l) step (clear refl) in
+      let did = by-refusal run ws ss l step (refusalOf run (lent ws ss l) step) refl v (rw own (e ∙ same .0)) ws′ (rw own (f ∙ same .1)) in
+      record { answer = did .answer; state = did .state }
+  by-refused step free h (suc r) clear v e ws′ f = record {
+    answer = rw e refl;
+    state = rw (e, f, set-out ss (length ss) noParcel (le-refl (length ss)), raised-none M l) refl;
+  }
+
+-- what is sound is ready for the covered functions
+pub clear-ready : (refused : ℕ) (run : Run) (ws : List ℕ) (ss : List Parcel) (l : Ledger) → (refused ≡ 0 → StateSound run (lent ws ss l)) → refused ≡ 0 → Ready run ws
+clear-ready refused run ws ss l clear z = record { sized = sized run (length ws) (length ss) (clear z .0); tables = clear z .1 }
+
+pub acted : (refused : ℕ) (sizes : Run) (ws : List ℕ) (ss : List Parcel) (l : Ledger) (asked : Step) (at : ℕ) (held : Parcel) (wanted : Bool) (free : ℕ) (v : Verdict) (ws′ : List ℕ) (ss′ : List Parcel) (l′ : Ledger)
+    → (refused ≡ 0 → StateSound sizes (lent ws ss l)) → at ≡ slotOf asked → held ≡ getD ss at noParcel → wanted ≡ needsSlot asked → free ≡ cond wanted (lowestFree ss) 0
+    → (v ≡ verdictUnder refused sizes ws (lookedAt free held (length ss) l) asked) × (ws′ ≡ wordsUnder refused sizes ws (lookedAt free held (length ss) l) asked)
     → l′ ≡ raisedLedger M (v .counter) l → ss′ ≡ set ss (v .at) (v .parcel)
-    → Stepped sizes (lent ws ss l) asked (answerIn v) (lent ws′ ss′ l′)
-unfolding verdictOf wordsOf
-stepped sizes ws ss l asked at held scan v ws′ ss′ l′ e₁ e₂ e₃ e₄ e₅ e₆ =
-    rw (e₅, e₆) (by-refusal sizes ws ss l asked (refusalOf sizes (lent ws ss l) asked) refl v (rw (e₂, e₁, e₃) at (e₄ .0)) ws′ (rw (e₂, e₁, e₃) at (e₄ .1)))
+    → Acted refused sizes (lent ws ss l) asked (answerIn v) (lent ws′ ss′ l′)
+acted refused sizes ws ss l asked at held wanted free v ws′ ss′ l′ clear e₁ e₂ e₃ e₄ e₅ e₆ e₇ =
+    rw (e₆, e₇) (by-refused sizes ws ss l asked free (rw e₃ at e₄) refused clear v (rw (e₂, e₁) at (e₅ .0)) ws′ (rw (e₂, e₁) at (e₅ .1)))
+
+-- ---- the judge before the step
+-- the judge, from what it was handed
+pub judged-all : (run : Run) (ws : List ℕ) (ss : List Parcel) (l : Ledger) (scan : Scan) (judged : ℕ) → scan ≡ scanOf M (run .sites) ss → judged ≡ judgement run ws (seenAs scan noParcel (length ss) l) → judged ≡ judgedOf run (lent ws ss l)
+unfolding judgedOf judgement
+judged-all run ws ss l scan judged e f = rw e at f
+
+-- a scan tells the lowest free slot
+pub scanned-low : (sites : ℕ) (ss : List Parcel) (scan : Scan) → scan ≡ scanOf M sites ss → scan .free ≤ lowestFree ss
+scanned-low sites ss scan e = rw e (le-refl (lowestFree ss))
+
+-- a state that is let through is sound
+pub judged-sound : (run : Run) (s : State) → judgedOf run s ≡ 0 → StateSound run s
+unfolding judgedOf judgement allSound
+judged-sound run s h =
+    let p = passed run (s .words) (seenAs (scanOf M (run .sites) (s .slots)) noParcel (length (s .slots)) (s .ledger)) h in
+    let c = parts (tablesSound M (width run) (run .sites) (s .words)) _ (p .1) in
+    let d = parts (slotsSound M (run .sites) (s .slots)) _ (c .1) in
+    (p .0, c .0, d .0, d .1)
+
+-- what the judge refuses is refused with that number at each step
+judged-first : (run : Run) (s : State) (step : Step) → (judgedOf run s ≡ 0 → ⊥) → refusalOf run s step ≡ judgedOf run s
+unfolding judgedOf refusalOf judgement allSound
+judged-first run s step h = refusal-judged run (s .words) (sightOf run s step) step h
+
+pub judged-step : (run : Run) (s : State) (step : Step) (judged : ℕ) (r : Answer) (left : State) → judged ≡ judgedOf run s → Acted judged run s step r left → Stepped run s step r left
+unfolding answerUnder afterUnder after
+judged-step run s step zero r left e did = record { answer = did .answer; state = did .state }
+judged-step run s step (suc k) r left e did =
+    let first : refusalOf run s step ≡ suc k = judged-first run s step (λ z. suc-ne-zero k (e ∙ z)) ∙ sym e in
+    record { answer = did .answer ∙ rw first refl; state = did .state ∙ rw first refl }
 
 -- ---- a fresh run
 fresh-by : (run : Run) (ws : List ℕ) (ss : List Parcel) (l : Ledger) (r : ℕ) → freshRefusal run (length ws) (length ss) ≡ r

@@ -2,7 +2,7 @@
 -- Assumes nothing.
 use Prim.Native.Nat.{ℕ, zero, suc, _*_, _≤_}
 use mathlib.Core.Path.{_≡_}
-use mathlib.Core.Bool.{Bool, true, not, cond}
+use mathlib.Core.Bool.{Bool, true, false, not, cond}
 use mathlib.Core.List.{List, [], _∷_}
 use lib.ListN.{length, replicate}
 use lib.Dec.{eqb}
@@ -13,11 +13,12 @@ use Rattle.rules.specs.declared.Ledger.{Ledger}
 use Rattle.rules.specs.declared.Scan.{Scan}
 use Rattle.rules.specs.declared.Sight.{Sight}
 use Rattle.rules.specs.declared.Step.{Step}
+use Rattle.rules.specs.declared.Step.the-variants.{Add, Remove, Query, Send, Merge, Deliver, Again, Lose}
 use Rattle.rules.specs.Lengths.{M}
 use Rattle.rules.specs.Operations.{unlessRefused}
 use Rattle.rules.specs.Parcels.{noParcel}
 use Rattle.rules.specs.Ledgers.{noCounter, absorbedCounter}
-use Rattle.rules.specs.Runs.{width, tablesSound, noFreeSlot, firstGiven, Test, _when_, sizesRight, allSound, stepTests, refusalIn, valueIn, wordsIn, placeIn, parcelIn, counterOf, freshRefusal}
+use Rattle.rules.specs.Runs.{width, tablesSound, noFreeSlot, firstGiven, Test, _when_, judgeTests, stepTests, refusalIn, valueIn, wordsIn, placeIn, parcelIn, counterOf, freshRefusal}
 use Rattle.sites.specs.declared.verdict.Verdict.{Verdict}
 
 -- nothing to change
@@ -56,17 +57,34 @@ stepWords run ws si step = unlessRefused (stepRefusal run ws si step) ws (wordsI
 
 -- ---- judged and all
 unfoldable pub judgement : Run → List ℕ → Sight → ℕ
-judgement run ws si = firstGiven ((1 when not (sizesRight run (length ws) (si .count))) ∷ (2 when not (allSound run ws si)) ∷ [])
+judgement run ws si = firstGiven (judgeTests run ws si)
 
 -- the same from the parts that `step` hands over
 abbrev pub seenAs : Scan → Parcel → ℕ → Ledger → Sight
 seenAs scan held slots l = record { scan = scan; named = held; count = slots; ledger = l }
 
-unfoldable pub verdictOf : Run → List ℕ → Scan → Parcel → ℕ → Ledger → Step → Verdict
-verdictOf run ws scan held slots l step = let si = seenAs scan held slots l in verdictBy (refusalIn run ws si step) run ws si step
+-- ---- what is seen once the state is judged: of the pass over the slots only the lowest free one, and that where the step puts a parcel there
+unfoldable pub needsSlot : Step → Bool
+needsSlot (Add k e) = false
+needsSlot (Remove k e) = false
+needsSlot (Query k e) = false
+needsSlot (Send f t e) = true
+needsSlot (Merge f t) = false
+needsSlot (Deliver i) = false
+needsSlot (Again i) = true
+needsSlot (Lose i) = false
 
-unfoldable pub wordsOf : Run → List ℕ → Scan → Parcel → ℕ → Ledger → Step → List ℕ
-wordsOf run ws scan held slots l step = let si = seenAs scan held slots l in unlessRefused (refusalIn run ws si step) ws (wordsIn run ws si step)
+abbrev pub lookedAt : ℕ → Parcel → ℕ → Ledger → Sight
+lookedAt free held slots l = seenAs (record { sound = true; waiting = 0; free = free }) held slots l
+
+-- a step that something has refused with a number before, or with 0 where nothing has
+unfoldable pub verdictUnder : ℕ → Run → List ℕ → Sight → Step → Verdict
+verdictUnder zero run ws si step = stepVerdict run ws si step
+verdictUnder (suc r) run ws si step = refusedVerdict (suc r) (si .count)
+
+unfoldable pub wordsUnder : ℕ → Run → List ℕ → Sight → Step → List ℕ
+wordsUnder zero run ws si step = stepWords run ws si step
+wordsUnder (suc r) run ws si step = ws
 
 -- what a verdict answers
 abbrev pub answerIn : Verdict → Answer

@@ -1,6 +1,5 @@
-// What a step comes to: the state is judged, then the step's own tests are made and the words changed. Everything here is by value but the words.
+// What a step comes to once the state is judged: the step's own tests are made and the words changed. Everything here is by value but the words.
 use crate::deliver::on_deliver;
-use crate::judge::judge;
 use crate::merges::on_merge;
 use crate::one::on_add;
 use crate::one::on_query;
@@ -18,7 +17,7 @@ use rules::Sight;
 use rules::Step;
 ghost use mathlib.Core.Path.{_≡_};
 ghost use Rattle.rules.specs.Runs.{slotOf};
-ghost use Rattle.sites.specs.Verdicts.{verdictOf, wordsOf};
+ghost use Rattle.sites.specs.Verdicts.{Ready, needsSlot, lookedAt, verdictUnder, wordsUnder};
 
 // The slot that a step names. A step that names none reads slot 0, and makes nothing of it.
 pub(crate) fn slot_of(step: Step) -> usize
@@ -40,27 +39,53 @@ pub(crate) fn slot_of(step: Step) -> usize
     }
 }
 
-// Every test of a step, and every change of the words.
+// Whether a step puts a new parcel into the lowest free slot. For any other the slots need no search.
+pub(crate) fn needs_slot(step: Step) -> bool
+    ensures { λ r. ⌜ r ≡ needsSlot step ⌝ }
+{
+    match step {
+        Step::Add { site: _, id: _ } => false,
+        Step::Remove { site: _, id: _ } => false,
+        Step::Query { site: _, id: _ } => false,
+        Step::Send {
+            from: _,
+            to: _,
+            id: _,
+        } => true,
+        Step::Merge { from: _, to: _ } => false,
+        Step::Deliver { slot: _ } => false,
+        Step::Again { slot: _ } => true,
+        Step::Lose { slot: _ } => false,
+    }
+}
+
+// Every test of a step, and every change of the words, unless something has refused the step before.
 pub(crate) fn decide(
     words: &mut [u64],
     run: Run,
-    scan: Scan,
+    free: usize,
     held: Parcel,
     slots: usize,
     ledger: Ledger,
     step: Step,
+    refused: u32,
 ) -> Verdict
-    ensures { λ r. ⌜ (r ≡ verdictOf run (now (words .entry)) scan held slots ledger step) × (now (words .exit) ≡ wordsOf run (now (words .entry)) scan held slots ledger step) ⌝ }
+    requires { ⌜ (refused ≡ 0 → Ready run (now words)) ⌝ }
+    ensures { λ r. ⌜ (r ≡ verdictUnder refused run (now (words .entry)) (lookedAt free held slots ledger) step) × (now (words .exit) ≡ wordsUnder refused run (now (words .entry)) (lookedAt free held slots ledger) step) ⌝ }
 {
+    let scan = Scan {
+        sound: true,
+        waiting: 0,
+        free: free,
+    };
     let seen = Sight {
         scan: scan,
         named: held,
         count: slots,
         ledger: ledger,
     };
-    let judged = judge(words, run, seen);
-    if judged != 0 {
-        return refuse(judged, seen);
+    if refused != 0 {
+        return refuse(refused, seen);
     }
     match step {
         Step::Add { site, id } => on_add(words, run, seen, site, id),

@@ -1,12 +1,16 @@
 // What 1 and 2 judge: the sizes, then all three lent things.
+use crate::verdict::no_parcel;
+use rules::Ledger;
 use rules::Run;
+use rules::Scan;
 use rules::Sight;
 ghost use mathlib.Core.Path.{_≡_};
 ghost use Prim.Native.Nat.{_*_, _≤_};
 ghost use lib.ListN.{length};
 ghost use Rattle.rules.specs.Lengths.{M};
+ghost use Rattle.rules.specs.Parcels.{noParcel};
 ghost use Rattle.rules.specs.Runs.{sizesRight, tablesSound, allSound};
-ghost use Rattle.sites.specs.Verdicts.{Sized, judgement};
+ghost use Rattle.sites.specs.Verdicts.{Sized, seenAs, judgement};
 
 // Whether the sizes are within the ranges and the words are as many as the tables take.
 pub(crate) fn sizes_right(run: Run, words: usize, slots: usize) -> bool
@@ -59,7 +63,7 @@ fn all_sound(words: &[u64], run: Run, seen: Sight) -> bool
 }
 
 // 1, 2, or 0 where neither is given.
-pub(crate) fn judge(words: &[u64], run: Run, seen: Sight) -> u32
+fn judge(words: &[u64], run: Run, seen: Sight) -> u32
     ensures { λ r. ⌜ r ≡ judgement run (now (words .entry)) seen ⌝ }
 {
     if sizes_right(run, words.len(), seen.count) {
@@ -69,4 +73,18 @@ pub(crate) fn judge(words: &[u64], run: Run, seen: Sight) -> u32
         return 2;
     }
     1
+}
+
+// The same from the parts that a function has which is lent all three.
+pub fn judge_seen(words: &[u64], run: Run, scan: Scan, slots: usize, ledger: Ledger) -> u32
+    ensures { λ r. ⌜ r ≡ judgement run (now (words .entry)) (seenAs scan noParcel slots ledger) ⌝ }
+{
+    let none = no_parcel();
+    let seen = Sight {
+        scan: scan,
+        named: none,
+        count: slots,
+        ledger: ledger,
+    };
+    judge(words, run, seen)
 }

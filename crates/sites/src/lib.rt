@@ -11,6 +11,8 @@ mod places;
 mod posts;
 mod verdict;
 
+pub use judge::judge_seen;
+pub use lent::act;
 pub use lent::fresh;
 pub use lent::step;
 pub use places::Part;

@@ -1,4 +1,4 @@
--- `sites::decide::decide`: refused by the judge, or decided by the function of the step.
+-- `sites::decide::decide`: refused before, or decided by the function of the step.
 -- Assumes nothing.
 use Prim.Native.Nat.{ℕ}
 use mathlib.Core.Path.{_≡_, refl, sym, ap, _∙_}
@@ -6,42 +6,37 @@ use mathlib.Core.List.{List}
 use denote.Ref.{now}
 use Rattle.rules.specs.declared.Sight.{Sight}
 use Rattle.rules.specs.Runs.{wordsIn}
-use Rattle.sites.specs.Verdicts.{judgement, seenAs, verdictOf, wordsOf}
-use Rattle.sites.proofs.Deciding.{ready-of, judged-out, judged-in, still-words}
+use Rattle.sites.specs.Verdicts.{Ready, lookedAt, verdictUnder, wordsUnder}
+use Rattle.sites.proofs.Deciding.{under-out, under-in, still-words}
 use native.Mathlib.Omega.{arith}
 use borrow.Author.Needs.{needs}
 use Rattle.sites.proofs.decide.decide.Statement.{statement}
 use Rattle.sites.proofs.decide.decide.Tie as tie
 
--- past the judge
+-- not refused before
 abbrev start : tie.Else1 → tie.Start
-start c = c .before .before .before .before
+start c = c .before .before
 
 abbrev W : tie.Else1 → List ℕ
 W c = now (start c .args .words)
 
 abbrev S : tie.Else1 → Sight
-S c = seenAs (start c .args .scan) (start c .args .held) (start c .args .slots) (start c .args .ledger)
+S c = lookedAt (start c .args .free) (start c .args .held) (start c .args .slots) (start c .args .ledger)
 
-through : (c : tie.Else1) → judgement (start c .args .run) (W c) (S c) ≡ 0
-through c = sym (c .before .judge .ensures) ∙ c .if1 .left
+through : (c : tie.Else1) → start c .args .refused ≡ 0
+through c = c .if1 .left
 
-judge-requires : tie.Need-judge-requires
-judge-requires c κs = search needs
+ready : (c : tie.Else1) → Ready (start c .args .run) (W c)
+ready c = start c .pre (through c)
 
 refuse-requires : tie.Need-refuse-requires
 refuse-requires c κs = search needs
 
-same-length : tie.Need-same-length
-same-length c = search needs
-
 returns : tie.Need-returns
-unfolding verdictOf wordsOf
 returns c =
-    let j = c .before .before in
-    let a = j .before .before .before .args in
-    let out = judged-out (a .run) (now (a .words)) (seenAs (a .scan) (a .held) (a .slots) (a .ledger)) (a .step) (λ z. c .before .if1 .taken (j .judge .ensures ∙ z)) in
-    (c .refuse .ensures ∙ (rw (j .judge .ensures) (out .0)), out .1)
+    let a = c .before .before .before .args in
+    let out = under-out (a .run) (now (a .words)) (lookedAt (a .free) (a .held) (a .slots) (a .ledger)) (a .step) (a .refused) (c .before .if1 .taken) in
+    (c .refuse .ensures ∙ out .0, out .1)
 
 enum-known-step : tie.Need-enum-known-step
 enum-known-step c = search needs
@@ -49,7 +44,7 @@ enum-known-step c = search needs
 on-add-requires : tie.Need-on-add-requires
 on-add-requires c κs =
     let e = c .before .before .before .before in
-    ready-of (start e .args .run) (W e) (S e) (through e)
+    ready e
 
 enum-known-step-2 : tie.Need-enum-known-step-2
 enum-known-step-2 c = search needs
@@ -57,7 +52,7 @@ enum-known-step-2 c = search needs
 on-remove-requires : tie.Need-on-remove-requires
 on-remove-requires c κs =
     let e = c .before .before .before .before in
-    ready-of (start e .args .run) (W e) (S e) (through e)
+    ready e
 
 enum-known-step-3 : tie.Need-enum-known-step-3
 enum-known-step-3 c = search needs
@@ -65,7 +60,7 @@ enum-known-step-3 c = search needs
 on-query-requires : tie.Need-on-query-requires
 on-query-requires c κs =
     let e = c .before .before .before .before in
-    ready-of (start e .args .run) (W e) (S e) (through e)
+    ready e
 
 enum-known-step-4 : tie.Need-enum-known-step-4
 enum-known-step-4 c = search needs
@@ -73,7 +68,7 @@ enum-known-step-4 c = search needs
 on-send-requires : tie.Need-on-send-requires
 on-send-requires c κs =
     let e = c .before .before .before .before in
-    ready-of (start e .args .run) (W e) (S e) (through e)
+    ready e
 
 enum-known-step-5 : tie.Need-enum-known-step-5
 enum-known-step-5 c = search needs
@@ -81,7 +76,7 @@ enum-known-step-5 c = search needs
 on-merge-requires : tie.Need-on-merge-requires
 on-merge-requires c κs =
     let e = c .before .before .before .before in
-    ready-of (start e .args .run) (W e) (S e) (through e)
+    ready e
 
 enum-known-step-6 : tie.Need-enum-known-step-6
 enum-known-step-6 c = search needs
@@ -89,7 +84,7 @@ enum-known-step-6 c = search needs
 on-deliver-requires : tie.Need-on-deliver-requires
 on-deliver-requires c κs =
     let e = c .before .before .before .before in
-    ready-of (start e .args .run) (W e) (S e) (through e)
+    ready e
 
 enum-known-step-7 : tie.Need-enum-known-step-7
 enum-known-step-7 c = search needs
@@ -103,97 +98,85 @@ enum-known-step-8 c = search needs
 on-lose-requires : tie.Need-on-lose-requires
 on-lose-requires c κs = search needs
 
-same-length-2 : tie.Need-same-length-2
-same-length-2 c = search needs
+same-length : tie.Need-same-length
+same-length c = search needs
 
 returns-2 : tie.Need-returns-2
-unfolding verdictOf wordsOf
 returns-2 c =
     let d = c .before .before in
     let e = d .before .before .before .before .before in
-    let own = judged-in (start e .args .run) (W e) (S e) _ (through e) in
+    let own = under-in (start e .args .run) (W e) (S e) _ (start e .args .refused) (through e) in
     rw (d .before .before .before .step .given .1) (d .on-add .ensures .0 ∙ own .0, d .on-add .ensures .1 ∙ own .1)
+
+same-length-2 : tie.Need-same-length-2
+same-length-2 c = search needs
+
+returns-3 : tie.Need-returns-3
+returns-3 c =
+    let d = c .before .before in
+    let e = d .before .before .before .before .before in
+    let own = under-in (start e .args .run) (W e) (S e) _ (start e .args .refused) (through e) in
+    rw (d .before .before .before .step2 .given .1) (d .on-remove .ensures .0 ∙ own .0, d .on-remove .ensures .1 ∙ own .1)
 
 same-length-3 : tie.Need-same-length-3
 same-length-3 c = search needs
 
-returns-3 : tie.Need-returns-3
-unfolding verdictOf wordsOf
-returns-3 c =
-    let d = c .before .before in
-    let e = d .before .before .before .before .before in
-    let own = judged-in (start e .args .run) (W e) (S e) _ (through e) in
-    rw (d .before .before .before .step2 .given .1) (d .on-remove .ensures .0 ∙ own .0, d .on-remove .ensures .1 ∙ own .1)
+returns-4 : tie.Need-returns-4
+unfolding wordsIn
+returns-4 c =
+    let e = c .before .before .before .before .before in
+    let own = under-in (start e .args .run) (W e) (S e) _ (start e .args .refused) (through e) in
+    rw (c .before .before .before .step3 .given .1) (c .on-query .ensures ∙ own .0, still-words (start e .args .run) (W e) (S e) _ refl ∙ own .1)
 
 same-length-4 : tie.Need-same-length-4
 same-length-4 c = search needs
 
-returns-4 : tie.Need-returns-4
-unfolding verdictOf wordsOf wordsIn
-returns-4 c =
+returns-5 : tie.Need-returns-5
+unfolding wordsIn
+returns-5 c =
     let e = c .before .before .before .before .before in
-    let own = judged-in (start e .args .run) (W e) (S e) _ (through e) in
-    rw (c .before .before .before .step3 .given .1) (c .on-query .ensures ∙ own .0, still-words (start e .args .run) (W e) (S e) _ refl ∙ own .1)
+    let own = under-in (start e .args .run) (W e) (S e) _ (start e .args .refused) (through e) in
+    rw (c .before .before .before .step4 .given .1) (c .on-send .ensures ∙ own .0, still-words (start e .args .run) (W e) (S e) _ refl ∙ own .1)
 
 same-length-5 : tie.Need-same-length-5
 same-length-5 c = search needs
 
-returns-5 : tie.Need-returns-5
-unfolding verdictOf wordsOf wordsIn
-returns-5 c =
-    let e = c .before .before .before .before .before in
-    let own = judged-in (start e .args .run) (W e) (S e) _ (through e) in
-    rw (c .before .before .before .step4 .given .1) (c .on-send .ensures ∙ own .0, still-words (start e .args .run) (W e) (S e) _ refl ∙ own .1)
+returns-6 : tie.Need-returns-6
+returns-6 c =
+    let d = c .before .before in
+    let e = d .before .before .before .before .before in
+    let own = under-in (start e .args .run) (W e) (S e) _ (start e .args .refused) (through e) in
+    rw (d .before .before .before .step5 .given .1) (d .on-merge .ensures .0 ∙ own .0, d .on-merge .ensures .1 ∙ own .1)
 
 same-length-6 : tie.Need-same-length-6
 same-length-6 c = search needs
 
-returns-6 : tie.Need-returns-6
-unfolding verdictOf wordsOf
-returns-6 c =
-    let d = c .before .before in
-    let e = d .before .before .before .before .before in
-    let own = judged-in (start e .args .run) (W e) (S e) _ (through e) in
-    rw (d .before .before .before .step5 .given .1) (d .on-merge .ensures .0 ∙ own .0, d .on-merge .ensures .1 ∙ own .1)
-
-same-length-7 : tie.Need-same-length-7
-same-length-7 c = search needs
-
 returns-7 : tie.Need-returns-7
-unfolding verdictOf wordsOf
 returns-7 c =
     let d = c .before .before in
     let e = d .before .before .before .before .before in
-    let own = judged-in (start e .args .run) (W e) (S e) _ (through e) in
+    let own = under-in (start e .args .run) (W e) (S e) _ (start e .args .refused) (through e) in
     rw (d .before .before .before .step6 .given .1) (d .on-deliver .ensures .0 ∙ own .0, d .on-deliver .ensures .1 ∙ own .1)
 
-same-length-8 : tie.Need-same-length-8
-same-length-8 c = search needs
-
 returns-8 : tie.Need-returns-8
-unfolding verdictOf wordsOf wordsIn
+unfolding wordsIn
 returns-8 c =
     let e = c .before .before .before .before in
-    let own = judged-in (start e .args .run) (W e) (S e) _ (through e) in
+    let own = under-in (start e .args .run) (W e) (S e) _ (start e .args .refused) (through e) in
     rw (c .before .before .step7 .given .1) (c .on-again .ensures (W e) ∙ own .0, still-words (start e .args .run) (W e) (S e) _ refl ∙ own .1)
 
-same-length-9 : tie.Need-same-length-9
-same-length-9 c = search needs
-
 returns-9 : tie.Need-returns-9
-unfolding verdictOf wordsOf wordsIn
+unfolding wordsIn
 returns-9 c =
     let e = c .before .before .before .before in
-    let own = judged-in (start e .args .run) (W e) (S e) _ (through e) in
+    let own = under-in (start e .args .run) (W e) (S e) _ (start e .args .refused) (through e) in
     rw (c .before .before .step8 .given .1) (c .on-lose .ensures (W e) ∙ own .0, still-words (start e .args .run) (W e) (S e) _ refl ∙ own .1)
 
 pub decide-spec : {M : Type 1} → statement M
 decide-spec =
     tie.close
     (tie.spec
-    judge-requires
     refuse-requires
-    same-length
     returns
     enum-known-step
     on-add-requires
@@ -211,19 +194,17 @@ decide-spec =
     on-again-requires
     enum-known-step-8
     on-lose-requires
-    same-length-2
+    same-length
     returns-2
-    same-length-3
+    same-length-2
     returns-3
-    same-length-4
+    same-length-3
     returns-4
-    same-length-5
+    same-length-4
     returns-5
-    same-length-6
+    same-length-5
     returns-6
-    same-length-7
+    same-length-6
     returns-7
-    same-length-8
     returns-8
-    same-length-9
     returns-9)

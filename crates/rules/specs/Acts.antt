@@ -1,0 +1,32 @@
+-- A step in a state that is judged already: what the one inner step answers and leaves. It is given a number, 0 or what has refused the step before
+-- it is looked at, and a slot number below which no slot is free.
+-- Assumes nothing.
+use Prim.Native.Nat.{ℕ, zero, suc, _≤_}
+use mathlib.Core.Path.{_≡_}
+use Rattle.rules.specs.declared.Answer.{Answer}
+use Rattle.rules.specs.declared.Run.{Run}
+use Rattle.rules.specs.declared.Step.{Step}
+use Rattle.rules.specs.Operations.{answer}
+use Rattle.rules.specs.Parcels.{noParcel, lowestFree}
+use Rattle.rules.specs.Runs.{State, sightWith, judgeTests, firstGiven, answerOf, after, stateBy}
+use Rattle.rules.specs.RunLaws.{StateSound}
+
+-- what 1 and 2 say of a state: one of them, or 0
+unfoldable pub judgedOf : Run → State → ℕ
+judgedOf run s = firstGiven (judgeTests run (s .words) (sightWith noParcel run s))
+
+-- where nothing has refused the step, the state is sound; and below `low` no slot is free
+abbrev pub Clear : ℕ → ℕ → Run → State → Type 0
+Clear refused low run s = (refused ≡ 0 → StateSound run s) × (low ≤ lowestFree (s .slots))
+
+unfoldable pub answerUnder : ℕ → Run → State → Step → Answer
+answerUnder zero run s step = answerOf run s step
+answerUnder (suc r) run s step = answer (suc r) 0
+
+unfoldable pub afterUnder : ℕ → Run → State → Step → State
+afterUnder refused run s step = stateBy refused s (after run s step)
+
+-- the contract of the inner step: the answer, and the state that is left
+pub record Acted (refused : ℕ) (run : Run) (before : State) (step : Step) (r : Answer) (left : State) : Type 0 where
+  pub answer : r ≡ answerUnder refused run before step
+  pub state : left ≡ afterUnder refused run before step
