@@ -3,8 +3,10 @@
 // median over the rounds. Before it is timed, every contender's answer is compared with the library's.
 //
 //   bench [--quick] [--no-paper] [SVG-FILE]
+mod bursts;
 mod ffi;
 mod jobs;
+mod maps;
 mod paper;
 mod plain;
 mod show;
@@ -95,6 +97,7 @@ fn main() {
     }
     let mut rows = Vec::new();
     jobs::all(&mut rows, rounds);
+    bursts::all(&mut rows, rounds);
     if with_paper {
         paper::all(&mut rows, rounds.min(5));
     }

@@ -1,6 +1,6 @@
 // What include/wiregantry.h declares, for the calls that are measured.
 #[repr(C)]
-#[derive(Clone, Copy, Default)]
+#[derive(Clone, Copy, Default, PartialEq)]
 pub struct Parcel {
     pub site: u64,
     pub id: u64,
@@ -8,7 +8,7 @@ pub struct Parcel {
 }
 
 #[repr(C)]
-#[derive(Clone, Copy, Default)]
+#[derive(Clone, Copy, Default, PartialEq)]
 pub struct Ledger {
     pub sent: u64,
     pub copied: u64,
@@ -19,6 +19,8 @@ pub struct Ledger {
 extern "C" {
     fn wg_step(words: *mut u64, n_words: usize, slots: *mut Parcel, n_slots: usize, ledger: *mut Ledger, sites: u64, capacity: u64,
                kind: u64, first: u64, second: u64, id: u64, value: *mut u64) -> u32;
+    fn wg_burst(words: *mut u64, n_words: usize, slots: *mut Parcel, n_slots: usize, ledger: *mut Ledger, sites: u64, capacity: u64,
+                asks: *const u64, n_asks: usize, answers: *mut u64, n_answers: usize) -> u32;
     fn wg_members(table: *const u64, n_words: usize, ids: *const u64, n_ids: usize, answers: *mut u8, n_answers: usize) -> u32;
     fn wg_read_line(line: *const u8, n: usize, area: *mut u8, n_area: usize) -> u32;
     fn wg_write_line(kind: u64, first: u64, second: u64, id: u64, buffer: *mut u8, room: usize) -> usize;
@@ -31,9 +33,11 @@ pub const QUERY: u64 = 3;
 pub const SEND: u64 = 4;
 pub const MERGE: u64 = 5;
 pub const DELIVER: u64 = 6;
+pub const AGAIN: u64 = 7;
+pub const LOSE: u64 = 8;
 pub const LARGEST: u64 = 4_294_967_295;
 
-#[derive(Clone)]
+#[derive(Clone, PartialEq)]
 pub struct State {
     pub words: Vec<u64>,
     pub slots: Vec<Parcel>,
@@ -63,6 +67,13 @@ impl State {
         &mut self.words[site * n..(site + 1) * n]
     }
 
+    // Becomes equal to a state of the same sizes, in the memory that it has.
+    pub fn put_back(&mut self, from: &State) {
+        self.words.copy_from_slice(&from.words);
+        self.slots.copy_from_slice(&from.slots);
+        self.ledger = from.ledger;
+    }
+
     // The refusal and the other result.
     pub fn step(&mut self, kind: u64, first: u64, second: u64, id: u64) -> (u32, u64) {
         let mut value = 0;
@@ -71,6 +82,13 @@ impl State {
                     self.sites, self.capacity, kind, first, second, id, &mut value)
         };
         (refusal, value)
+    }
+
+    pub fn burst(&mut self, asks: &[u64], answers: &mut [u64]) -> u32 {
+        unsafe {
+            wg_burst(self.words.as_mut_ptr(), self.words.len(), self.slots.as_mut_ptr(), self.slots.len(), &mut self.ledger,
+                     self.sites, self.capacity, asks.as_ptr(), asks.len(), answers.as_mut_ptr(), answers.len())
+        }
     }
 }
 

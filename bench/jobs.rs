@@ -5,7 +5,7 @@ use std::hint::black_box;
 
 const INPUTS: usize = 8;
 
-fn rising_ids(r: &mut Random, count: usize, gap: u64) -> Vec<u64> {
+pub fn rising_ids(r: &mut Random, count: usize, gap: u64) -> Vec<u64> {
     let mut id = r.below(gap);
     (0..count)
         .map(|_| {
@@ -16,7 +16,7 @@ fn rising_ids(r: &mut Random, count: usize, gap: u64) -> Vec<u64> {
         .collect()
 }
 
-fn lay(table: &mut [u64], ids: &[u64], r: &mut Random) {
+pub fn lay(table: &mut [u64], ids: &[u64], r: &mut Random) {
     table.fill(0);
     for (k, id) in ids.iter().enumerate() {
         table[2 * k] = *id;

@@ -1,13 +1,15 @@
 // The first experiment of section 6 of the paper: 10 instances start with 1,000 elements each of 2,000; an iteration makes 2 to 5 random
 // updates at each of 2 to 5 instances, and all instances then merge these updates; 500 updates in all, a fraction of them removals.
-// It is run twice, with the updates travelling alone (send and deliver) and with whole tables merged, and both times against a causal-length
-// set in a hash map. Which updates are made is worked out before, so that only the set's own work is timed.
+// It is run three times, with the updates travelling alone (send and deliver), with the same steps in bursts, and with whole tables merged, each
+// time against a causal-length set in a hash map. Which updates are made is worked out before, so that only the set's own work is timed.
 use crate::ffi::{State, ADD, DELIVER, MERGE, REMOVE, SEND};
 use crate::{measure, timed, Contender, Random, Row};
 use std::collections::HashMap;
 
 const INSTANCES: usize = 10;
 const RUNS: usize = 2;
+const SLOTS: usize = 64;
+const SLOTS_FOR_BURSTS: usize = 256; // an iteration has up to 25 updates, each of them for 9 others
 
 struct Update {
     at: usize,
@@ -56,8 +58,8 @@ fn script(r: &mut Random, removals: u64) -> Script {
     Script { ids, start, iterations }
 }
 
-fn tables(s: &Script) -> State {
-    let mut state = State::fresh(INSTANCES, 2048, 64);
+fn tables(s: &Script, slots: usize) -> State {
+    let mut state = State::fresh(INSTANCES, 2048, slots);
     for site in 0..INSTANCES {
         let table = state.table_mut(site);
         let held = s.ids.iter().zip(&s.start).filter(|(_, l)| **l > 0);
@@ -74,8 +76,17 @@ fn maps(s: &Script) -> Vec<HashMap<u64, u64>> {
     vec![one; INSTANCES]
 }
 
+fn kind(u: &Update) -> u64 {
+    if u.add { ADD } else { REMOVE }
+}
+
+fn others(u: &Update) -> impl Iterator<Item = usize> {
+    let at = u.at;
+    (0..INSTANCES).filter(move |to| *to != at)
+}
+
 fn local(state: &mut State, u: &Update) {
-    let (refusal, _) = state.step(if u.add { ADD } else { REMOVE }, u.at as u64, 0, u.id);
+    let (refusal, _) = state.step(kind(u), u.at as u64, 0, u.id);
     assert_eq!(refusal, 0);
 }
 
@@ -83,12 +94,54 @@ fn library_updates(state: &mut State, s: &Script) {
     for updates in &s.iterations {
         updates.iter().for_each(|u| local(state, u));
         for u in updates {
-            for to in (0..INSTANCES).filter(|to| *to != u.at) {
+            for to in others(u) {
                 let (refusal, slot) = state.step(SEND, u.at as u64, to as u64, u.id);
                 assert_eq!(refusal, 0);
                 state.step(DELIVER, slot, 0, 0);
             }
         }
+    }
+}
+
+// Steps that wait for the next burst.
+#[derive(Default)]
+struct Queue {
+    asks: Vec<u64>,
+    answers: Vec<u64>,
+}
+
+impl Queue {
+    fn push(&mut self, ask: [u64; 4]) {
+        self.asks.extend(ask);
+    }
+
+    fn len(&self) -> u64 {
+        self.asks.len() as u64 / 4
+    }
+
+    // Takes all of them in one call; each must be accepted.
+    fn drain(&mut self, state: &mut State) {
+        self.answers.resize(self.asks.len() / 2, 0);
+        assert_eq!(state.burst(&self.asks, &mut self.answers), 0);
+        assert!(self.answers.iter().step_by(2).all(|refusal| *refusal == 0));
+        self.asks.clear();
+    }
+}
+
+// The updates of an iteration in one burst, their parcels in a second, the deliveries in a third. Every slot is free before the second, so that
+// parcel k takes slot k.
+fn library_bursts(state: &mut State, s: &Script) {
+    let mut queue = Queue::default();
+    for updates in &s.iterations {
+        updates.iter().for_each(|u| queue.push([kind(u), u.at as u64, 0, u.id]));
+        queue.drain(state);
+        for u in updates {
+            others(u).for_each(|to| queue.push([SEND, u.at as u64, to as u64, u.id]));
+        }
+        let parcels = queue.len();
+        queue.drain(state);
+        (0..parcels).for_each(|slot| queue.push([DELIVER, slot, 0, 0]));
+        queue.drain(state);
     }
 }
 
@@ -116,7 +169,7 @@ fn map_updates(maps: &mut [HashMap<u64, u64>], s: &Script) {
         updates.iter().for_each(|u| local_map(&mut maps[u.at], u));
         for u in updates {
             let length = maps[u.at][&u.id];
-            for to in (0..INSTANCES).filter(|to| *to != u.at) {
+            for to in others(u) {
                 let theirs = maps[to].entry(u.id).or_insert(0);
                 *theirs = (*theirs).max(length);
             }
@@ -157,25 +210,32 @@ pub fn all(rows: &mut Vec<Row>, rounds: usize) {
     for removals in [0, 10, 20, 30, 40, 50] {
         let scripts: Vec<Script> = (0..RUNS).map(|_| script(&mut r, removals)).collect();
         for s in &scripts {
-            let (mut state, mut map) = (tables(s), maps(s));
+            let (mut state, mut in_bursts, mut map) = (tables(s, SLOTS), tables(s, SLOTS_FOR_BURSTS), maps(s));
             library_updates(&mut state, s);
+            library_bursts(&mut in_bursts, s);
             map_updates(&mut map, s);
             same(&state, &map);
-            let (mut state, mut map) = (tables(s), maps(s));
+            same(&in_bursts, &map);
+            let (mut state, mut map) = (tables(s, SLOTS), maps(s));
             library_tables(&mut state, s);
             map_tables(&mut map, s);
             same(&state, &map);
         }
-        let run_library = |work: fn(&mut State, &Script), s: &Script| { let mut state = tables(s); timed(|| work(&mut state, s)) };
+        let run_library = |work: fn(&mut State, &Script), slots: usize, s: &Script| { let mut state = tables(s, slots); timed(|| work(&mut state, s)) };
         let run_map = |work: fn(&mut [HashMap<u64, u64>], &Script), s: &Script| { let mut map = maps(s); timed(|| work(&mut map, s)) };
         let against = "a causal-length set in a hash map";
         let contenders: Vec<Contender> = vec![
-            ("library", Box::new(|i| run_library(library_updates, &scripts[i]))),
+            ("library", Box::new(|i| run_library(library_updates, SLOTS, &scripts[i]))),
             (against, Box::new(|i| run_map(map_updates, &scripts[i]))),
         ];
         measure(rows, &format!("the paper's benchmark, single updates, {removals} % removals"), "ms", 1e6, RUNS, rounds, contenders);
         let contenders: Vec<Contender> = vec![
-            ("library", Box::new(|i| run_library(library_tables, &scripts[i]))),
+            ("library", Box::new(|i| run_library(library_bursts, SLOTS_FOR_BURSTS, &scripts[i]))),
+            (against, Box::new(|i| run_map(map_updates, &scripts[i]))),
+        ];
+        measure(rows, &format!("the paper's benchmark, single updates in bursts, {removals} % removals"), "ms", 1e6, RUNS, rounds, contenders);
+        let contenders: Vec<Contender> = vec![
+            ("library", Box::new(|i| run_library(library_tables, SLOTS, &scripts[i]))),
             (against, Box::new(|i| run_map(map_tables, &scripts[i]))),
         ];
         measure(rows, &format!("the paper's benchmark, whole tables, {removals} % removals"), "ms", 1e6, RUNS, rounds, contenders);

@@ -1,6 +1,7 @@
 // What the library is measured against: the plainest safe Rust that does the same job.
 use crate::ffi::{Ledger, Parcel, State, LARGEST};
-use std::collections::HashMap;
+use crate::maps::Kept;
+use std::collections::{BTreeMap, HashMap};
 use std::io::Write;
 
 // ---- judging ----
@@ -213,94 +214,14 @@ pub fn write_line(n: [u64; 4], mut buffer: &mut [u8]) -> usize {
     if done.is_err() { 0 } else { room - buffer.len() }
 }
 
-// ---- the report: three sites with 8 entries each in maps, 8 slots ----
-
-struct Kept {
-    sites: [std::collections::BTreeMap<u64, u64>; 3],
-    slots: [Option<(usize, u64, u64)>; 8],
-    counts: [u64; 4],
-}
-
-fn run_step(k: &mut Kept, n: [u64; 4]) -> Result<u64, u32> {
-    let site = |s: u64| if s < 3 { Ok(s as usize) } else { Err(3u32) };
-    let free = |k: &Kept| k.slots.iter().position(|s| s.is_none()).ok_or(9u32);
-    let at = |k: &Kept, s: u64| k.slots.get(s as usize).copied().flatten().ok_or(5u32);
-    match n[0] {
-        1..=3 => {
-            let table = &mut k.sites[site(n[1])?];
-            let now = table.get(&n[3]).copied().unwrap_or(0);
-            if n[0] == 3 || now % 2 == n[0] % 2 {
-                return Ok(now);
-            }
-            if now == 0 && table.len() == 8 {
-                return Err(8);
-            }
-            table.insert(n[3], now + 1);
-            Ok(now + 1)
-        }
-        4 => {
-            let (a, b) = (site(n[1])?, site(n[2])?);
-            if a == b {
-                return Err(4);
-            }
-            let length = *k.sites[a].get(&n[3]).ok_or(6u32)?;
-            let slot = free(k)?;
-            k.slots[slot] = Some((b, n[3], length));
-            k.counts[0] += 1;
-            Ok(slot as u64)
-        }
-        5 => {
-            let (a, b) = (site(n[1])?, site(n[2])?);
-            if a == b {
-                return Err(4);
-            }
-            let mut joined = k.sites[b].clone();
-            let mut rose = 0;
-            for (id, length) in &k.sites[a] {
-                let now = joined.entry(*id).or_insert(0);
-                rose += (*length > *now) as u64;
-                *now = (*now).max(*length);
-            }
-            if joined.len() > 8 {
-                return Err(8);
-            }
-            k.sites[b] = joined;
-            Ok(rose)
-        }
-        6 => {
-            let (site, id, length) = at(k, n[1])?;
-            let table = &mut k.sites[site];
-            let now = table.get(&id).copied().unwrap_or(0);
-            if now == 0 && table.len() == 8 {
-                return Err(8);
-            }
-            table.insert(id, now.max(length));
-            k.slots[n[1] as usize] = None;
-            k.counts[2] += 1;
-            Ok(now.max(length))
-        }
-        7 => {
-            let parcel = at(k, n[1])?;
-            let slot = free(k)?;
-            k.slots[slot] = Some(parcel);
-            k.counts[1] += 1;
-            Ok(slot as u64)
-        }
-        _ => {
-            at(k, n[1])?;
-            k.slots[n[1] as usize] = None;
-            k.counts[3] += 1;
-            Ok(0)
-        }
-    }
-}
+// ---- the report: three sites with 8 entries each, 8 slots ----
 
 pub fn report(input: &[u8]) -> Vec<u8> {
-    let mut k = Kept { sites: Default::default(), slots: [None; 8], counts: [0; 4] };
+    let mut k = Kept::<BTreeMap<u64, u64>, 3, 8, 8>::fresh();
     let mut out = Vec::new();
     for (i, piece) in input.split_inclusive(|b| *b == 10).enumerate() {
         let step = piece.strip_suffix(b"\n").and_then(read_line);
-        match step.ok_or(11).and_then(|n| run_step(&mut k, n).map(|v| (n, v))) {
+        match step.ok_or(11).and_then(|n| k.step(n).map(|v| (n, v))) {
             Err(refusal) => writeln!(out, "line={} refused={refusal}", i + 1).unwrap(),
             Ok((n, v)) if n[0] == 3 => writeln!(out, "line={} node={} id={} length={v} present={}", i + 1, n[1], n[3], v % 2).unwrap(),
             Ok(_) => {}
@@ -309,7 +230,7 @@ pub fn report(input: &[u8]) -> Vec<u8> {
     for (name, count) in ["sent", "copied", "absorbed", "lost"].iter().zip(k.counts) {
         writeln!(out, "{name}={count}").unwrap();
     }
-    writeln!(out, "waiting={}", k.slots.iter().flatten().count()).unwrap();
+    writeln!(out, "waiting={}", k.waiting()).unwrap();
     for (i, site) in k.sites.iter().enumerate() {
         writeln!(out, "node={i} shown={}", site.len()).unwrap();
     }

@@ -18,9 +18,9 @@ const LEFT: f64 = 560.0;
 const WIDTH: f64 = 420.0;
 const HEIGHT: f64 = 34.0;
 
-// Ratios from 1/16 to 4,096 on a logarithmic scale.
+// Ratios from 1/256 to 4,096 on a logarithmic scale.
 fn place(ratio: f64) -> f64 {
-    LEFT + WIDTH * ((ratio.log2() + 4.0) / 16.0).clamp(0.0, 1.0)
+    LEFT + WIDTH * ((ratio.log2() + 8.0) / 20.0).clamp(0.0, 1.0)
 }
 
 fn escape(text: &str) -> String {
@@ -34,7 +34,7 @@ pub fn svg(rows: &[Row]) -> String {
          <rect width=\"1060\" height=\"{tall}\" fill=\"white\"/>\n\
          <text x=\"12\" y=\"24\" font-size=\"15\">Time of the library divided by that of the other (below 1: the library is faster)</text>\n"
     );
-    for power in (-4..=12).step_by(2) {
+    for power in (-8..=12).step_by(2) {
         let x = place(2f64.powi(power));
         let name = if power < 0 { format!("1/{}", 1 << -power) } else { format!("{}", 1 << power) };
         let (colour, width) = if power == 0 { ("#333", 1.5) } else { ("#ddd", 1.0) };

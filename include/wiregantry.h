@@ -49,6 +49,10 @@ typedef char wg_needs_sizes_of_64_bits[sizeof(size_t) == 8 ? 1 : -1];
 #define WG_WORDS(sites, capacity) ((size_t)(sites) * 2u * (size_t)(capacity))
 #define WG_ANSWERS(n) (((size_t)(n) + 7u) / 8u)
 
+/* The words of a burst of n steps: of its asks, and of the answers to them. */
+#define WG_ASKS(n) ((size_t)(n) * 4u)
+#define WG_BURST_ANSWERS(n) ((size_t)(n) * 2u)
+
 /* The room that wg_report asks for n bytes of input: proved to hold every report of so many. */
 #define WG_REPORT_ROOM(n) ((size_t)(n) * 22u + 256u)
 
@@ -88,7 +92,7 @@ typedef char wg_needs_sizes_of_64_bits[sizeof(size_t) == 8 ? 1 : -1];
 #define WG_NO_ROOM 8u         /* the gaining table would need more entries than its capacity */
 #define WG_NO_SLOT 9u         /* send or again with no free slot */
 #define WG_COUNT_FULL 10u     /* the counter to be raised is at its largest */
-#define WG_NO_STEP 11u        /* the text is not a step line, or the numbers are not a step */
+#define WG_NO_STEP 11u        /* the text is not a step line, or the numbers are not a step, or not four for each step of a burst */
 #define WG_INPUT_LONG 12u     /* the report's input is longer than WG_INPUT_MAX */
 #define WG_SHORT_BUFFER 13u   /* a buffer to be written is too short */
 #define WG_MANY_IDS 14u       /* bulk membership asked for more than WG_MEMBERS_MAX ids */
@@ -157,6 +161,18 @@ uint32_t wg_step(uint64_t *words, size_t n_words, wg_parcel *slots, size_t n_slo
                  uint64_t sites, uint64_t capacity,
                  uint64_t kind, uint64_t first, uint64_t second, uint64_t id, uint64_t *value);
 
+/* Many steps of one run, which is judged once for all of them. An ask is the four numbers of a step (kind, first, second, id), an answer is
+ * two, its refusal and its value. n_asks and n_answers count words: WG_ASKS(n) and at least WG_BURST_ANSWERS(n) for n steps.
+ *
+ * Answer i is what wg_step would return and leave in *value after the asks before it. So a refused step changes nothing and has the value 0,
+ * numbers that are no step are answered with 11, and the burst goes on behind both. Words behind the answers keep what they had. No asks:
+ * accepted once the run is judged, nothing written.
+ * Refuses in this order, the run and the answers as they were: 1 and 2 as in wg_step; 11 exactly when n_asks is not a multiple of 4;
+ * 13 exactly when n_answers is below WG_BURST_ANSWERS(n_asks / 4). */
+uint32_t wg_burst(uint64_t *words, size_t n_words, wg_parcel *slots, size_t n_slots, wg_ledger *ledger,
+                  uint64_t sites, uint64_t capacity,
+                  const uint64_t *asks, size_t n_asks, uint64_t *answers, size_t n_answers);
+
 /* Which of n_ids ids one table lists. Answer i goes into bit i mod 8 of answers[i / 8], lowest bit first; spare bits of the last byte are 0,
  * and bytes behind it keep what they had. The ids may repeat and need no order. No ids: accepted, nothing written.
  * Refuses in this order: 1 exactly when n_words is odd or above 4,096; 2 the table is not sound; 14 n_ids is above 4,096;
@@ -216,6 +232,12 @@ static inline uint32_t wg_start(const wg_run *run) {
 static inline uint32_t wg_do(const wg_run *run, uint64_t kind, uint64_t first, uint64_t second, uint64_t id, uint64_t *value) {
     return wg_step(run->words, run->n_words, run->slots, run->n_slots, run->ledger, run->sites, run->capacity,
                    kind, first, second, id, value);
+}
+
+/* wg_burst on a run: n steps, WG_ASKS(n) words of asks and WG_BURST_ANSWERS(n) of answers. Refuses with 1, 2. */
+static inline uint32_t wg_do_all(const wg_run *run, const uint64_t *asks, size_t n, uint64_t *answers) {
+    return wg_burst(run->words, run->n_words, run->slots, run->n_slots, run->ledger, run->sites, run->capacity,
+                    asks, WG_ASKS(n), answers, WG_BURST_ANSWERS(n));
 }
 
 /* Publishes id at a site. Refuses with 1, 2, 3, 8. */

@@ -39,12 +39,13 @@ static void stopped(int sig) {
 
 /* ---- what was met ---- */
 
-enum { FRESH, ADD, REMOVE, QUERY, SEND, MERGE, DELIVER, AGAIN, LOSE, NO_KIND, MEMBERS, READ, CHECK, WRITE, REPORT, CALLS };
+/* IN_BURST is no call: its refusals are the answers to the steps inside bursts. */
+enum { FRESH, ADD, REMOVE, QUERY, SEND, MERGE, DELIVER, AGAIN, LOSE, NO_KIND, BURST, MEMBERS, READ, CHECK, WRITE, REPORT, CALLS, IN_BURST = CALLS, ROWS };
 
 static const struct {
     const char *name;
     unsigned can; /* bit k: refusal k */
-} calls[CALLS] = {
+} calls[ROWS] = {
     {"fresh", 1 << 0 | 1 << 1},
     {"add", 1 << 0 | 1 << 1 | 1 << 2 | 1 << 3 | 1 << 8 | 1 << 11},
     {"remove", 1 << 0 | 1 << 1 | 1 << 2 | 1 << 3 | 1 << 7 | 1 << 11},
@@ -55,14 +56,18 @@ static const struct {
     {"again", 1 << 0 | 1 << 1 | 1 << 2 | 1 << 5 | 1 << 9 | 1 << 10 | 1 << 11},
     {"lose", 1 << 0 | 1 << 1 | 1 << 2 | 1 << 5 | 1 << 10 | 1 << 11},
     {"no kind", 1 << 11},
+    {"burst", 1 << 0 | 1 << 1 | 1 << 2 | 1 << 11 | 1 << 13},
     {"members", 1 << 0 | 1 << 1 | 1 << 2 | 1 << 13 | 1 << 14},
     {"read_line", 1 << 0 | 1 << 11 | 1 << 13},
     {"check_line", 1 << 0 | 1 << 11 | 1 << 13},
     {"write_line", 1 << 0 | 1 << 11 | 1 << 13},
     {"report", 1 << 0 | 1 << 12 | 1 << 13},
+    {"burst step", 1 << 0 | 1 << 3 | 1 << 4 | 1 << 5 | 1 << 6 | 1 << 7 | 1 << 8 | 1 << 9 | 1 << 10 | 1 << 11},
 };
 
-static uint64_t met[CALLS][15], damaged[DAMAGES];
+static uint64_t met[ROWS][15], damaged[DAMAGES];
+
+static int all_largest(const shape *s) { return s->sites == 16 && s->capacity == 2048 && s->n_slots == 1024; }
 
 /* steps at each end of the sizes */
 static uint64_t at_size[8];
@@ -76,7 +81,19 @@ static void meet_size(const shape *s) {
     at_size[4] += s->capacity == 2048;
     at_size[5] += s->n_slots == 0;
     at_size[6] += s->n_slots == 1024;
-    at_size[7] += s->sites == 16 && s->capacity == 2048 && s->n_slots == 1024;
+    at_size[7] += all_largest(s);
+}
+
+/* accepted bursts at each end of their length, and in the largest state */
+enum { LONGEST_BURST = 1000 };
+static uint64_t bursts[4];
+static const char *const burst_names[4] = {"no step", "1 step", "1,000 steps", "all largest"};
+
+static void meet_burst(const shape *s, size_t steps) {
+    bursts[0] += steps == 0;
+    bursts[1] += steps == 1;
+    bursts[2] += steps == LONGEST_BURST;
+    bursts[3] += all_largest(s);
 }
 
 static int call_of(uint64_t kind) { return kind >= 1 && kind <= 8 ? (int)kind : NO_KIND; }
@@ -88,7 +105,7 @@ static void meet(int call, uint32_t refusal) {
 
 /* ---- comparing ---- */
 
-static area words, slots, ledger, value, ids, answers, line, room, input, out, written;
+static area words, slots, ledger, value, asks, burst_answers, ids, answers, line, room, input, out, written;
 
 #define LIB(a, type) ((type *)(void *)(a).start[0])
 #define MOD(a, type) ((type *)(void *)(a).start[1])
@@ -234,12 +251,17 @@ static void case_run(rng *r, int large) {
         do_step(r, &s, one_in(r, 4) ? some_numbers(r, &s, &ids_of_case) : telling_numbers(r, &s, &ids_of_case));
 }
 
+/* A sound state, in the library's copy alone so far. */
+static void place_sound(rng *r, const shape *s) {
+    place_state(r, s);
+    pool_for(r, s);
+    some_state(r, s, &ids_of_case, LIB(words, uint64_t), LIB(slots, wg_parcel), LIB(ledger, wg_ledger));
+}
+
 static void case_state(rng *r, int large) {
     shape s = some_shape(r, large);
     unsigned k, steps = 1 + (unsigned)below(r, 3);
-    place_state(r, &s);
-    pool_for(r, &s);
-    some_state(r, &s, &ids_of_case, LIB(words, uint64_t), LIB(slots, wg_parcel), LIB(ledger, wg_ledger));
+    place_sound(r, &s);
     share_state();
     for (k = 0; k < steps; k++)
         if (do_step(r, &s, telling_numbers(r, &s, &ids_of_case)) == 2) differ("a state made sound is judged unsound");
@@ -250,9 +272,7 @@ static void case_damage(rng *r, int large) {
     unsigned way = (unsigned)below(r, DAMAGES);
     numbers n;
     uint32_t refusal;
-    place_state(r, &s);
-    pool_for(r, &s);
-    some_state(r, &s, &ids_of_case, LIB(words, uint64_t), LIB(slots, wg_parcel), LIB(ledger, wg_ledger));
+    place_sound(r, &s);
     if (!damage(r, way, &s, LIB(words, uint64_t), LIB(slots, wg_parcel), LIB(ledger, wg_ledger))) return;
     damaged[way]++;
     share_state();
@@ -262,7 +282,7 @@ static void case_damage(rng *r, int large) {
     if (one_in(r, 8)) do_fresh(&s);
 }
 
-static void case_sizes(rng *r) {
+static shape place_bad_sizes(rng *r) {
     shape s = bad_shape(r);
     place_state(r, &s);
     pool_for(r, &s);
@@ -271,8 +291,154 @@ static void case_sizes(rng *r) {
         noise(r, &slots);
         noise(r, &ledger);
     }
+    return s;
+}
+
+static void case_sizes(rng *r) {
+    shape s = place_bad_sizes(r);
     if (one_in(r, 4)) do_fresh(&s);
     else do_step(r, &s, some_numbers(r, &s, &ids_of_case));
+}
+
+/* ---- bursts ---- */
+
+static size_t some_burst_length(rng *r, int large) {
+    if (one_in(r, 12)) return 0;
+    if (one_in(r, 12)) return 1;
+    if (one_in(r, large ? 20 : 40)) return LONGEST_BURST;
+    if (large) return (size_t)below(r, 8); /* the model and the steps one by one judge the state before each of them */
+    if (one_in(r, 16)) return (size_t)below(r, LONGEST_BURST + 1);
+    return (size_t)below(r, 40);
+}
+
+typedef numbers chooser(rng *r, const shape *s, const pool *p);
+
+static numbers nonsense(rng *r) {
+    numbers n;
+    n.kind = edge(r);
+    n.first = edge(r);
+    n.second = edge(r);
+    n.id = edge(r);
+    return n;
+}
+
+/* Asks for so many steps, now and then with words to spare. The state is asked for what it holds at first, which the steps then change. */
+static void place_asks(rng *r, const shape *s, size_t steps, chooser *choose) {
+    size_t spare = one_in(r, 10) ? 1 + (size_t)below(r, 3) : 0, k;
+    uint64_t nonsense_in = one_in(r, 4) ? 3 : 40;
+    area_place(&asks, r, (4 * steps + spare) * 8);
+    for (k = 0; k < steps; k++) {
+        numbers n = one_in(r, nonsense_in) ? nonsense(r) : choose(r, s, &ids_of_case);
+        uint64_t *ask = LIB(asks, uint64_t) + 4 * k;
+        ask[0] = n.kind;
+        ask[1] = n.first;
+        ask[2] = n.second;
+        ask[3] = n.id;
+    }
+    for (k = 4 * steps; k < 4 * steps + spare; k++) LIB(asks, uint64_t)[k] = edge(r);
+    area_share(&asks);
+}
+
+static void place_burst_answers(rng *r, size_t steps) {
+    size_t need = 2 * steps, has = need;
+    if (one_in(r, 3)) has += (size_t)below(r, 20);
+    if (need > 0 && one_in(r, 8)) has = one_in(r, 2) ? need - 1 : (size_t)below(r, need);
+    area_place(&burst_answers, r, has * 8);
+    noise(r, &burst_answers);
+}
+
+static uint32_t do_burst(rng *r, const shape *s, size_t steps, chooser *choose) {
+    static area *const areas[] = {&burst_answers, &words, &slots, &ledger, &asks, 0}; /* the answers first, since their place tells the step */
+    size_t n_asks, n_answers;
+    place_asks(r, s, steps, choose);
+    place_burst_answers(r, steps);
+    n_asks = asks.size / 8;
+    n_answers = burst_answers.size / 8;
+    snprintf(doing, sizeof doing, "wg_burst sites=%" PRIu64 " capacity=%" PRIu64 " n_words=%zu n_slots=%zu n_asks=%zu n_answers=%zu",
+             s->sites, s->capacity, s->n_words, s->n_slots, n_asks, n_answers);
+    uint32_t a = wg_burst(LIB(words, uint64_t), s->n_words, LIB(slots, wg_parcel), s->n_slots, LIB(ledger, wg_ledger), s->sites, s->capacity,
+                          LIB(asks, uint64_t), n_asks, LIB(burst_answers, uint64_t), n_answers);
+    uint32_t b = model_burst(MOD(words, uint64_t), s->n_words, MOD(slots, wg_parcel), s->n_slots, MOD(ledger, wg_ledger), s->sites, s->capacity,
+                             MOD(asks, uint64_t), n_asks, MOD(burst_answers, uint64_t), n_answers);
+    same_answers(a, b, "refusal");
+    same_areas(areas);
+    meet(BURST, b);
+    return b;
+}
+
+/* The state before a burst, in which its steps are taken one by one. */
+static struct {
+    uint64_t words[65536];
+    wg_parcel slots[1024];
+    wg_ledger ledger;
+} apart;
+
+static void set_apart(const shape *s) {
+    memcpy(apart.words, LIB(words, uint64_t), s->n_words * 8);
+    memcpy(apart.slots, LIB(slots, wg_parcel), s->n_slots * sizeof(wg_parcel));
+    apart.ledger = *LIB(ledger, wg_ledger);
+}
+
+static void same_as_apart(const shape *s) {
+    if (memcmp(apart.words, LIB(words, uint64_t), s->n_words * 8) != 0 ||
+        memcmp(apart.slots, LIB(slots, wg_parcel), s->n_slots * sizeof(wg_parcel)) != 0 ||
+        memcmp(&apart.ledger, LIB(ledger, wg_ledger), sizeof apart.ledger) != 0)
+        differ("the burst and its steps one by one leave different states");
+}
+
+/* The library against itself: a burst answers and leaves what its steps do, one call of wg_step each. */
+static void one_by_one(const shape *s, size_t steps) {
+    size_t k;
+    for (k = 0; k < steps; k++) {
+        const uint64_t *ask = LIB(asks, uint64_t) + 4 * k, *answer = LIB(burst_answers, uint64_t) + 2 * k;
+        uint64_t alone = UINT64_MAX;
+        uint32_t refusal = wg_step(apart.words, s->n_words, apart.slots, s->n_slots, &apart.ledger, s->sites, s->capacity,
+                                   ask[0], ask[1], ask[2], ask[3], &alone);
+        if (answer[0] != refusal || answer[1] != alone)
+            differ("step %zu (kind=%" PRIu64 " first=%" PRIu64 " second=%" PRIu64 " id=%" PRIu64 "): the burst answers %" PRIu64 " and %" PRIu64
+                   ", wg_step %" PRIu32 " and %" PRIu64, k, ask[0], ask[1], ask[2], ask[3], answer[0], answer[1], refusal, alone);
+        meet(IN_BURST, refusal);
+    }
+    same_as_apart(s);
+}
+
+static void burst_sound(rng *r, int large) {
+    static const shape largest = {16, 2048, 65536, 1024};
+    shape s = large && one_in(r, 3) ? largest : some_shape(r, large);
+    size_t steps = some_burst_length(r, large);
+    uint32_t refusal;
+    place_sound(r, &s);
+    share_state();
+    set_apart(&s);
+    refusal = do_burst(r, &s, steps, telling_numbers);
+    if (refusal == 2) differ("a state made sound is judged unsound");
+    if (refusal != 0) return;
+    one_by_one(&s, steps);
+    meet_burst(&s, steps);
+}
+
+static void burst_damaged(rng *r, int large) {
+    shape s = some_shape(r, large);
+    unsigned way = (unsigned)below(r, DAMAGES);
+    place_sound(r, &s);
+    if (!damage(r, way, &s, LIB(words, uint64_t), LIB(slots, wg_parcel), LIB(ledger, wg_ledger))) return;
+    damaged[way]++;
+    share_state();
+    if (do_burst(r, &s, some_burst_length(r, large), telling_numbers) != 2)
+        differ("a state damaged by \"%s\" is not refused with 2", damage_names[way]);
+}
+
+static void burst_bad_sizes(rng *r) {
+    shape s = place_bad_sizes(r);
+    do_burst(r, &s, some_burst_length(r, 0), some_numbers);
+}
+
+static void case_burst(rng *r, int large) {
+    switch (below(r, 8)) {
+    case 0: burst_bad_sizes(r); break;
+    case 1: burst_damaged(r, large); break;
+    default: burst_sound(r, large);
+    }
 }
 
 /* ---- bulk membership ---- */
@@ -420,7 +586,7 @@ static void one_case(uint64_t k) {
     rng r = rng_of(seed, k);
     int large = one_in(&r, 150);
     number = k;
-    switch (below(&r, 16)) {
+    switch (below(&r, 17)) {
     case 0: case 1: case 2: case_run(&r, large); break;
     case 3: case 4: case 5: case 6: case_state(&r, large); break;
     case 7: case 8: case_damage(&r, large); break;
@@ -428,41 +594,70 @@ static void one_case(uint64_t k) {
     case 10: case 11: case_members(&r, large); break;
     case 12: case 13: case_read(&r); break;
     case 14: case_write(&r); break;
+    case 15: case_burst(&r, large); break;
     default: case_report(&r, large);
     }
 }
 
-static int print_met(void) {
+/* Each of these prints a part of what was met and returns how much of it was not. */
+
+static int print_row(int call) {
+    int k, missed = 0;
+    printf("%-11s", calls[call].name);
+    for (k = 0; k < 15; k++) {
+        if (!(calls[call].can >> k & 1)) {
+            printf("%9s", "");
+            continue;
+        }
+        printf("%9" PRIu64, met[call][k]);
+        if (met[call][k] == 0) missed++;
+    }
+    printf("\n");
+    return missed;
+}
+
+static int print_refusals(void) {
     int c, k, missed = 0;
     uint64_t sum[15] = {0};
     printf("%-11s", "refusal");
     for (k = 0; k < 15; k++) printf("%9d", k);
     printf("\n");
     for (c = 0; c < CALLS; c++) {
-        printf("%-11s", calls[c].name);
-        for (k = 0; k < 15; k++) {
-            sum[k] += met[c][k];
-            if (!(calls[c].can >> k & 1)) printf("%9s", "");
-            else printf("%9" PRIu64, met[c][k]);
-            if ((calls[c].can >> k & 1) && met[c][k] == 0) missed++;
-        }
-        printf("\n");
+        missed += print_row(c);
+        for (k = 0; k < 15; k++) sum[k] += met[c][k];
     }
     printf("%-11s", "all");
     for (k = 0; k < 15; k++) printf("%9" PRIu64, sum[k]);
     printf("\n");
+    for (k = 1; k < 15; k++)
+        if (sum[k] < 1000) missed++;
+    return missed + print_row(IN_BURST);
+}
+
+static int print_damages(void) {
+    int k, missed = 0;
     for (k = 0; k < DAMAGES; k++) {
         if (damaged[k] == 0) missed++;
         printf("damaged states, %s: %" PRIu64 "\n", damage_names[k], damaged[k]);
     }
-    for (k = 0; k < 8; k++) {
-        if (at_size[k] == 0) missed++;
-        printf("%s%s: %" PRIu64, k == 0 ? "steps at sizes, " : ", ", size_names[k], at_size[k]);
+    return missed;
+}
+
+static int print_counts(const char *what, const char *const *names, const uint64_t *counts, int n) {
+    int k, missed = 0;
+    for (k = 0; k < n; k++) {
+        if (counts[k] == 0) missed++;
+        printf("%s, %s: %" PRIu64, k == 0 ? what : "", names[k], counts[k]);
     }
     printf("\n");
-    for (k = 1; k < 15; k++)
-        if (sum[k] < 1000) missed++;
     return missed;
+}
+
+static int print_met(void) {
+    int missed = print_refusals();
+    missed += print_damages();
+    missed += print_counts("steps at sizes", size_names, at_size, 8);
+    return missed + print_counts("bursts", burst_names, bursts, 4);
 }
 
 static void make_areas(void) {
@@ -470,6 +665,8 @@ static void make_areas(void) {
     area_make(&slots, "slots", 1025 * sizeof(wg_parcel));
     area_make(&ledger, "ledger", sizeof(wg_ledger));
     area_make(&value, "value", 8);
+    area_make(&asks, "asks", (4 * LONGEST_BURST + 3) * 8);
+    area_make(&burst_answers, "answers", (2 * LONGEST_BURST + 20) * 8);
     area_make(&ids, "ids", 4100 * 8);
     area_make(&answers, "answers", 600);
     area_make(&line, "line", 2 * LINE_ROOM);

@@ -1,5 +1,5 @@
-/* marked.c: the twelve marked examples P1 to P12 and the sample report, with the very numbers and texts of the rules, through the header's
- * named calls. It compiles as C and as C++. */
+/* marked.c: the twelve marked examples P1 to P12, a burst and the sample report, with the very numbers and texts of the rules, through the
+ * header's named calls. It compiles as C and as C++. */
 #include <inttypes.h>
 #include <stdio.h>
 #include <string.h>
@@ -123,6 +123,34 @@ static void no_room(void) {
     same("lost", ledger.lost, 1);
 }
 
+static void same_words(const char *what, const uint64_t *got, const uint64_t *want, size_t n) {
+    size_t k;
+    for (k = 0; k < n; k++) same(what, got[k], want[k]);
+}
+
+static void burst(void) {
+    static const uint64_t asks[WG_ASKS(6)] = {
+        WG_ADD, 0, 0, 7, WG_SEND, 0, 1, 7, WG_DELIVER, 0, 0, 0, 9, 0, 0, 0, WG_QUERY, 1, 0, 7, WG_AGAIN, 0, 0, 0,
+    };
+    static const uint64_t want[] = {0, 1, 0, 0, 0, 1, 11, 0, 0, 1, 5, 0, 99, 99}, untouched[] = {99, 99}, one_each[4] = {7, 1, 7, 1};
+    uint64_t answers[WG_BURST_ANSWERS(7)];
+    wg_run run = run_of(1);
+    size_t k;
+    for (k = 0; k < WG_BURST_ANSWERS(7); k++) answers[k] = 99;
+    same("a burst of 23 words", wg_burst(words, 4, slots, 2, &ledger, 2, 1, asks, 23, answers, 14), 11);
+    same("a word short", wg_burst(words, 4, slots, 2, &ledger, 2, 1, asks, 24, answers, 11), 13);
+    same_words("a refused burst's answers", answers, untouched, 2);
+    same("a refused burst's run", words[1], 0);
+    same("the burst", wg_do_all(&run, asks, 6, answers), 0);
+    same_words("the burst's answers", answers, want, WG_BURST_ANSWERS(7));
+    same_table("the burst", words, one_each, 2);
+    same("the burst's sent", ledger.sent, 1);
+    same("the burst's absorbed", ledger.absorbed, 1);
+    same("a burst of no steps", wg_do_all(&run, asks, 0, answers), 0);
+    words[1] = 0; /* an id without a length */
+    same("no steps, unsound", wg_do_all(&run, asks, 0, answers), 2);
+}
+
 static const char sample[] =
     "step=add node=0 id=7\nstep=add node=1 id=7\nstep=send from=1 to=2 id=7\nstep=deliver slot=0\nstep=remove node=0 id=7\n"
     "step=remove node=1 id=7\nstep=remove node=2 id=7\nstep=add node=1 id=7\nstep=send from=0 to=1 id=7\nstep=again slot=0\n"
@@ -178,10 +206,11 @@ int main(void) {
     largest_lengths();
     merges();
     no_room();
+    burst();
     reports();
     lines();
     for (k = 0; k < 16; k++)
         if (wg_refusal_text(k)[0] == 0) wrong = 1;
-    if (!wrong) printf("marked: P1 to P12, the sample report, the longest line and the longest report are as the rules say\n");
+    if (!wrong) printf("marked: P1 to P12, the burst, the sample report, the longest line and the longest report are as the rules say\n");
     return wrong;
 }

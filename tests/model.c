@@ -132,6 +132,20 @@ static bool is_step(uint64_t kind, uint64_t second, uint64_t id) {
 static struct set tables[16];
 static struct set joined;
 
+static bool unpack_all(const uint64_t *words, uint64_t sites, uint64_t capacity) {
+    uint64_t k;
+    for (k = 0; k < sites; k++)
+        if (!unpack(words + k * 2 * capacity, capacity, &tables[k])) return false;
+    return true;
+}
+
+static bool sound_parcels(const wg_parcel *slots, size_t n_slots, const wg_ledger *ledger, uint64_t sites) {
+    size_t k;
+    for (k = 0; k < n_slots; k++)
+        if (!sound_slot(&slots[k], sites)) return false;
+    return sound_ledger(ledger, waiting(slots, n_slots));
+}
+
 uint32_t model_step(uint64_t *words, size_t n_words, wg_parcel *slots, size_t n_slots, wg_ledger *ledger,
                     uint64_t sites, uint64_t capacity,
                     uint64_t kind, uint64_t first, uint64_t second, uint64_t id, uint64_t *value) {
@@ -142,11 +156,8 @@ uint32_t model_step(uint64_t *words, size_t n_words, wg_parcel *slots, size_t n_
     *value = 0;
     if (!is_step(kind, second, id)) return 11;
     if (!sizes(n_words, n_slots, sites, capacity)) return 1;
-    for (k = 0; k < sites; k++)
-        if (!unpack(words + k * 2 * capacity, capacity, &tables[k])) return 2;
-    for (k = 0; k < n_slots; k++)
-        if (!sound_slot(&slots[k], sites)) return 2;
-    if (!sound_ledger(ledger, waiting(slots, n_slots))) return 2;
+    if (!unpack_all(words, sites, capacity)) return 2;
+    if (!sound_parcels(slots, n_slots, ledger, sites)) return 2;
 
     if (kind <= 5 && first >= sites) return 3;
     if ((kind == 4 || kind == 5) && second >= sites) return 3;
@@ -232,6 +243,27 @@ uint32_t model_step(uint64_t *words, size_t n_words, wg_parcel *slots, size_t n_
         ledger->lost++;
         return 0;
     }
+}
+
+/* ---- bursts ---- */
+
+/* "Answer i is exactly what a step would answer in the state after the asks before it" */
+uint32_t model_burst(uint64_t *words, size_t n_words, wg_parcel *slots, size_t n_slots, wg_ledger *ledger,
+                     uint64_t sites, uint64_t capacity,
+                     const uint64_t *asks, size_t n_asks, uint64_t *answers, size_t n_answers) {
+    size_t k, steps = n_asks / 4;
+    if (!sizes(n_words, n_slots, sites, capacity)) return 1;
+    if (!unpack_all(words, sites, capacity) || !sound_parcels(slots, n_slots, ledger, sites)) return 2;
+    if (n_asks % 4 != 0) return 11;
+    if (n_answers < 2 * steps) return 13;
+    for (k = 0; k < steps; k++) {
+        const uint64_t *ask = asks + 4 * k;
+        uint64_t value;
+        uint32_t refusal = model_step(words, n_words, slots, n_slots, ledger, sites, capacity, ask[0], ask[1], ask[2], ask[3], &value);
+        answers[2 * k] = refusal;
+        answers[2 * k + 1] = value;
+    }
+    return 0;
 }
 
 /* ---- bulk membership ---- */

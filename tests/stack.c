@@ -8,24 +8,32 @@
 
 #include "wiregantry.h"
 
-enum { ROOM = 1 << 20, PAINT = 0x5a };
+enum { ROOM = 1 << 20, PAINT = 0x5a, BURST = 1000 };
 
 static uint64_t words[WG_WORDS(WG_SITES_MAX, WG_CAPACITY_MAX)], ids[WG_MEMBERS_MAX];
 static wg_parcel slots[WG_SLOTS_MAX];
 static wg_ledger ledger;
+static uint64_t asks[WG_ASKS(BURST)], burst_answers[WG_BURST_ANSWERS(BURST)];
 static uint8_t answers[WG_ANSWERS(WG_MEMBERS_MAX)], input[WG_INPUT_MAX], out[WG_REPORT_MAX];
 
 static void *nothing(void *unused) { return unused; }
 
-static void *steps(void *unused) {
-    wg_run run = {words, WG_WORDS(WG_SITES_MAX, WG_CAPACITY_MAX), slots, WG_SLOTS_MAX, &ledger, WG_SITES_MAX, WG_CAPACITY_MAX};
-    uint64_t value, k;
+static const wg_run run = {words, WG_WORDS(WG_SITES_MAX, WG_CAPACITY_MAX), slots, WG_SLOTS_MAX, &ledger, WG_SITES_MAX, WG_CAPACITY_MAX};
+
+/* The first two tables with 1,000 ids each, a third of them common. */
+static void start(void) {
+    uint64_t k;
     wg_start(&run);
     for (k = 0; k < 1000; k++) {
         words[2 * k] = 3 * k;
         words[2 * (WG_CAPACITY_MAX + k)] = 2 * k;
         words[2 * k + 1] = words[2 * (WG_CAPACITY_MAX + k) + 1] = 1 + k % 3;
     }
+}
+
+static void *steps(void *unused) {
+    uint64_t value;
+    start();
     wg_add(&run, 0, 1, &value);
     wg_remove(&run, 0, 1, &value);
     wg_query(&run, 0, 1, &value);
@@ -34,6 +42,22 @@ static void *steps(void *unused) {
     wg_deliver(&run, 0, &value);
     wg_lose(&run, 1);
     wg_merge(&run, 0, 1, &value);
+    return unused;
+}
+
+/* The same steps, over and over with another id. */
+static void *burst(void *unused) {
+    static const uint64_t kinds[8][4] = {
+        {WG_ADD, 0, 0, 1}, {WG_REMOVE, 0, 0, 1}, {WG_QUERY, 0, 0, 1}, {WG_SEND, 0, 1, 1},
+        {WG_AGAIN, 0, 0, 0}, {WG_DELIVER, 0, 0, 0}, {WG_LOSE, 1, 0, 0}, {WG_MERGE, 0, 1, 0},
+    };
+    size_t k;
+    start();
+    for (k = 0; k < BURST; k++) {
+        memcpy(asks + WG_ASKS(k), kinds[k % 8], sizeof kinds[0]);
+        asks[WG_ASKS(k) + 3] *= 1 + k;
+    }
+    if (wg_do_all(&run, asks, BURST, burst_answers) != WG_ACCEPTED) exit(2);
     return unused;
 }
 
@@ -76,7 +100,7 @@ int main(void) {
     static const struct {
         const char *name;
         void *(*calls)(void *);
-    } all[] = {{"steps", steps}, {"members", members}, {"lines", lines}, {"report", report}};
+    } all[] = {{"steps", steps}, {"burst", burst}, {"members", members}, {"lines", lines}, {"report", report}};
     size_t base = used_by(nothing), k, most = 0;
     for (k = 0; k < sizeof all / sizeof *all; k++) {
         size_t used = used_by(all[k].calls);

@@ -2,6 +2,7 @@
  * copy of the model with a planted fault they must find one (planted-faults). It proves nothing about the library. */
 #define model_fresh wg_fresh
 #define model_step wg_step
+#define model_burst wg_burst
 #define model_members wg_members
 #define model_read_line wg_read_line
 #define model_check_line wg_check_line

@@ -1,10 +1,16 @@
-/* step.c: any bytes as a state and some steps. The first three say the sizes, the next ones are the words, the slots and the ledger, a byte to a number
- * that is mostly small; the rest are steps, five bytes each. The library and the model must agree on every answer and on all that is lent. */
+/* step.c: any bytes as a state and some steps. The first four say the sizes, the next ones are the words, the slots and the ledger, a byte to a
+ * number that is mostly small; the rest are steps, four bytes each. The library and the model must agree on every answer and on all that is lent,
+ * step by step and then in one burst. */
 #include "model.h"
 #include <stdlib.h>
 #include <string.h>
 
-enum { WORDS = 4 * 2 * 6, SLOTS = 6 };
+enum { WORDS = 4 * 2 * 6, SLOTS = 6, STEPS = 1000 };
+
+typedef struct {
+    uint64_t sites, capacity;
+    size_t n_words, n_slots;
+} sizes;
 
 typedef struct {
     uint64_t words[WORDS];
@@ -34,37 +40,84 @@ static uint64_t number(void) {
     }
 }
 
+static sizes some_sizes(void) {
+    sizes z;
+    z.sites = byte() % 5;
+    z.capacity = byte() % 7;
+    z.n_slots = byte() % (SLOTS + 1);
+    z.n_words = z.sites * 2 * z.capacity;
+    if (byte() % 8 == 0 && z.n_words > 0) z.n_words--;
+    return z;
+}
+
+static void fill(state *s, const sizes *z) {
+    size_t k;
+    memset(s, 0, sizeof *s);
+    for (k = 0; k < z->n_words; k++) s->words[k] = number();
+    for (k = 0; k < z->n_slots; k++) {
+        s->slots[k].site = number();
+        s->slots[k].id = number();
+        s->slots[k].length = number();
+    }
+    s->ledger.sent = number();
+    s->ledger.copied = number();
+    s->ledger.absorbed = number();
+    s->ledger.lost = number();
+    if (byte() % 4 == 0) wg_fresh(s->words, z->n_words, s->slots, z->n_slots, &s->ledger, z->sites, z->capacity);
+}
+
+static uint64_t asks[WG_ASKS(STEPS)], alone[WG_BURST_ANSWERS(STEPS)];
+static state before, ours, theirs;
+
+static int same_states(void) { return memcmp(&ours, &theirs, sizeof ours) == 0; }
+
+/* Leaves the steps in asks, what they answered in alone, and returns how many they were. */
+static size_t take_steps(const sizes *z) {
+    uint64_t value = 1, other = 1;
+    size_t steps;
+    for (steps = 0; left > 0 && steps < STEPS; steps++) {
+        uint64_t *n = asks + WG_ASKS(steps), *answer = alone + WG_BURST_ANSWERS(steps);
+        uint32_t a, b;
+        n[0] = byte() % 10;
+        n[1] = number();
+        n[2] = number();
+        n[3] = number();
+        a = wg_step(ours.words, z->n_words, ours.slots, z->n_slots, &ours.ledger, z->sites, z->capacity, n[0], n[1], n[2], n[3], &value);
+        b = model_step(theirs.words, z->n_words, theirs.slots, z->n_slots, &theirs.ledger, z->sites, z->capacity, n[0], n[1], n[2], n[3], &other);
+        if (a != b || value != other || !same_states()) abort();
+        answer[0] = a;
+        answer[1] = value;
+    }
+    return steps;
+}
+
+/* An accepted burst has the answers of its steps alone, and leaves the state that they left. */
+static void take_burst(const sizes *z, size_t steps) {
+    static uint64_t answers[WG_BURST_ANSWERS(STEPS)], others[WG_BURST_ANSWERS(STEPS)];
+    static state after;
+    uint32_t a, b;
+    after = ours;
+    ours = theirs = before;
+    memset(answers, 0x5a, sizeof answers);
+    memset(others, 0x5a, sizeof others);
+    a = wg_burst(ours.words, z->n_words, ours.slots, z->n_slots, &ours.ledger, z->sites, z->capacity,
+                 asks, WG_ASKS(steps), answers, WG_BURST_ANSWERS(steps));
+    b = model_burst(theirs.words, z->n_words, theirs.slots, z->n_slots, &theirs.ledger, z->sites, z->capacity,
+                    asks, WG_ASKS(steps), others, WG_BURST_ANSWERS(steps));
+    if (a != b || memcmp(answers, others, sizeof answers) != 0 || !same_states()) abort();
+    if (a != 0) return;
+    if (memcmp(answers, alone, WG_BURST_ANSWERS(steps) * sizeof *alone) != 0 || memcmp(&ours, &after, sizeof ours) != 0) abort();
+}
+
 int LLVMFuzzerTestOneInput(const uint8_t *data, size_t n);
 
 int LLVMFuzzerTestOneInput(const uint8_t *data, size_t n) {
-    static state ours, theirs;
-    uint64_t sites, capacity, value = 1, other = 1;
-    size_t n_words, n_slots, k;
+    sizes z;
     next = data;
     left = n;
-    sites = byte() % 5;
-    capacity = byte() % 7;
-    n_slots = byte() % (SLOTS + 1);
-    n_words = sites * 2 * capacity;
-    if (byte() % 8 == 0 && n_words > 0) n_words--;
-    memset(&ours, 0, sizeof ours);
-    for (k = 0; k < n_words; k++) ours.words[k] = number();
-    for (k = 0; k < n_slots; k++) {
-        ours.slots[k].site = number();
-        ours.slots[k].id = number();
-        ours.slots[k].length = number();
-    }
-    ours.ledger.sent = number();
-    ours.ledger.copied = number();
-    ours.ledger.absorbed = number();
-    ours.ledger.lost = number();
-    if (byte() % 4 == 0) wg_fresh(ours.words, n_words, ours.slots, n_slots, &ours.ledger, sites, capacity);
-    theirs = ours;
-    while (left > 0) {
-        uint64_t kind = byte() % 10, first = number(), second = number(), id = number();
-        uint32_t a = wg_step(ours.words, n_words, ours.slots, n_slots, &ours.ledger, sites, capacity, kind, first, second, id, &value);
-        uint32_t b = model_step(theirs.words, n_words, theirs.slots, n_slots, &theirs.ledger, sites, capacity, kind, first, second, id, &other);
-        if (a != b || value != other || memcmp(&ours, &theirs, sizeof ours) != 0) abort();
-    }
+    z = some_sizes();
+    fill(&before, &z);
+    ours = theirs = before;
+    take_burst(&z, take_steps(&z));
     return 0;
 }

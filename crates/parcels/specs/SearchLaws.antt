@@ -15,19 +15,10 @@ use lib.Seq.{drop-cons, drop-length}
 use borrow.Author.Tests.{lt-ltb, le-ltb, ltb-true, ltb-false}
 use Rattle.rules.specs.declared.Parcel.{Parcel}
 use Rattle.rules.specs.Parcels.{noParcel, isFree, lowestFree}
+use Rattle.rules.specs.SlotLaws.{lowest-within}
 
 abbrev pub found : List Parcel → ℕ → ℕ → ℕ
 found ys i end = cond (ltb i end) (i + lowestFree (drop i ys)) end
-
--- no further than the number of slots
-pub lowest-within : (ys : List Parcel) → lowestFree ys ≤ length ys
-unfolding lowestFree
-lowest-within [] = omega arith
-lowest-within (y ∷ ys) = go (isFree y) (lowest-within ys)
-  where
-    go : (b : Bool) → lowestFree ys ≤ length ys → cond b 0 (suc (lowestFree ys)) ≤ suc (length ys)
-    go true h = omega arith
-    go false h = omega (arith, h)
 
 -- where none is free before i, the search may begin there
 pub lowest-from : (ys : List Parcel) (i : ℕ) → i ≤ lowestFree ys → i + lowestFree (drop i ys) ≡ lowestFree ys

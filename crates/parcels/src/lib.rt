@@ -123,11 +123,11 @@ pub fn store_slot(slots: &mut [Parcel], at: usize, parcel: Parcel)
     }
 }
 
-// How many slots there are to clear.
-fn smaller(count: usize, n: usize) -> usize
-    ensures { λ r. ⌜ r ≡ min count n ⌝ }
+// The smaller of two slot numbers or counts of slots.
+pub fn smaller(a: usize, b: usize) -> usize
+    ensures { λ r. ⌜ r ≡ min a b ⌝ }
 {
-    if count < n { count } else { n }
+    if a < b { a } else { b }
 }
 
 // Makes the first slots free, or all where there are fewer.

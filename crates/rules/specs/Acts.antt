@@ -1,11 +1,14 @@
 -- A step in a state that is judged already: what the one inner step answers and leaves. It is given a number, 0 or what has refused the step before
 -- it is looked at, and a slot number below which no slot is free.
 -- Assumes nothing.
-use Prim.Native.Nat.{ℕ, zero, suc, _≤_}
+use Prim.Native.Nat.{ℕ, zero, suc, _≤_, min}
 use mathlib.Core.Path.{_≡_}
+use mathlib.Core.Bool.{cond}
+use lib.Dec.{eqb}
 use Rattle.rules.specs.declared.Answer.{Answer}
 use Rattle.rules.specs.declared.Run.{Run}
 use Rattle.rules.specs.declared.Step.{Step}
+use Rattle.rules.specs.declared.Step.the-variants.{Add, Remove, Query, Send, Merge, Deliver, Again, Lose}
 use Rattle.rules.specs.Operations.{answer}
 use Rattle.rules.specs.Parcels.{noParcel, lowestFree}
 use Rattle.rules.specs.Runs.{State, sightWith, judgeTests, firstGiven, answerOf, after, stateBy}
@@ -30,3 +33,17 @@ afterUnder refused run s step = stateBy refused s (after run s step)
 pub record Acted (refused : ℕ) (run : Run) (before : State) (step : Step) (r : Answer) (left : State) : Type 0 where
   pub answer : r ≡ answerUnder refused run before step
   pub state : left ≡ afterUnder refused run before step
+
+-- ---- the next step's `low`, from this one's, its answer, and the slot that it sets
+unfoldable pub lowTaken : ℕ → Step → ℕ → ℕ
+lowTaken low (Add k e) v = low
+lowTaken low (Remove k e) v = low
+lowTaken low (Query k e) v = low
+lowTaken low (Send f t e) v = v
+lowTaken low (Merge f t) v = low
+lowTaken low (Deliver i) v = min low i
+lowTaken low (Again i) v = v
+lowTaken low (Lose i) v = min low i
+
+unfoldable pub lowAfter : ℕ → Step → Answer → ℕ
+lowAfter low step a = cond (eqb (a .refusal) 0) (lowTaken low step (a .value)) low

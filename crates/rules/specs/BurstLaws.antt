@@ -40,7 +40,7 @@ answers-long run s [] = refl
 answers-long run s (ask ∷ asks) = let e = answers-long run (namedAfter run s ask) asks in omega (arith, e)
 
 -- put in front of what stood there, they stand in front
-put-first : (given ws : List ℕ) → put given 0 ws ≡ ws ++ drop (length ws) given
+pub put-first : (given ws : List ℕ) → put given 0 ws ≡ ws ++ drop (length ws) given
 unfolding put
 put-first given ws = ap (λ (k : ℕ). ws ++ drop k given) (zero-add (length ws))
 

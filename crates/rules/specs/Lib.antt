@@ -52,6 +52,7 @@ pub mod Room
 pub mod RoomCases
 pub mod Calls
 pub mod Acts
+pub mod ActLaws
 pub mod Bursts
 pub mod BurstLaws
 pub mod Promises

@@ -2,6 +2,7 @@
 -- Assumes nothing.
 use Prim.Native.Nat.{ℕ, zero, suc, _≤_, _<_}
 use native.Mathlib.Nat.{not-suc-le-zero, le-of-suc-le-suc}
+use native.Mathlib.Omega.{arith}
 use mathlib.Core.Bool.{Bool, true, false, _||_, not, cond, false≢true}
 use mathlib.Core.Path.{_≡_, refl, sym, ap, _∙_}
 use mathlib.Core.List.{List, [], _∷_}
@@ -112,6 +113,28 @@ lowest-free (x ∷ xs) l = go (isFree x) refl (lowest-free xs) l
         → cond b 0 (suc (lowestFree xs)) < suc (length xs) → isFree (getD (x ∷ xs) (cond b 0 (suc (lowestFree xs))) noParcel) ≡ true
     go true q ih l = q
     go false q ih l = ih (le-of-suc-le-suc l)
+
+-- where none below a number is free, a store at or above it leaves none free below it
+pub set-lowest : (ss : List Parcel) (i : ℕ) (p : Parcel) (low : ℕ) → low ≤ i → low ≤ lowestFree ss → low ≤ lowestFree (set ss i p)
+unfolding lowestFree
+set-lowest ss i p zero a b = omega arith
+set-lowest [] i p (suc low) a b = b
+set-lowest (x ∷ xs) zero p (suc low) a b = absurd (not-suc-le-zero a)
+set-lowest (x ∷ xs) (suc i) p (suc low) a b = go (isFree x) b (set-lowest xs i p low (le-of-suc-le-suc a))
+  where
+    go : (f : Bool) → suc low ≤ cond f 0 (suc (lowestFree xs)) → (low ≤ lowestFree xs → low ≤ lowestFree (set xs i p)) → suc low ≤ cond f 0 (suc (lowestFree (set xs i p)))
+    go true b ih = absurd (not-suc-le-zero b)
+    go false b ih = let h = ih (le-of-suc-le-suc b) in omega (arith, h)
+
+-- and no number of a slot is above the number of slots
+pub lowest-within : (ss : List Parcel) → lowestFree ss ≤ length ss
+unfolding lowestFree
+lowest-within [] = omega arith
+lowest-within (x ∷ xs) = go (isFree x) (lowest-within xs)
+  where
+    go : (f : Bool) → lowestFree xs ≤ length xs → cond f 0 (suc (lowestFree xs)) ≤ suc (length xs)
+    go true h = omega arith
+    go false h = omega (arith, h)
 
 -- ---- slots made free
 -- all of them free: sound, as many as before, and none waits
