@@ -2,7 +2,7 @@
 --     found        what a search gives that has come to i, and is to end at `end`
 --     find-first   before any slot is seen, from a number on below which none is free.        find-next    one slot seen.        find-last    the search is over
 -- Assumes nothing.
-use mathlib.Core.Path.{_≡_, refl, sym, ap, _∙_, subst}
+use mathlib.Core.Path.{_≡_, refl, sym, ap, _∙_}
 use Prim.Native.Nat.{ℕ, zero, suc, _+_, _<_, _≤_}
 use native.Mathlib.Omega.{arith}
 use native.Mathlib.Nat.{zero-add}
@@ -12,7 +12,7 @@ use mathlib.Core.List.{List, [], _∷_}
 use lib.Dec.{ltb}
 use lib.ListN.{length, drop, getD}
 use lib.Seq.{drop-cons, drop-length}
-use borrow.Author.Tests.{lt-ltb, le-ltb, ltb-true, ltb-false}
+use borrow.Author.Tests.{lt-ltb, le-ltb, ltb-false}
 use Rattle.rules.specs.declared.Parcel.{Parcel}
 use Rattle.rules.specs.Parcels.{noParcel, isFree, lowestFree}
 use Rattle.rules.specs.SlotLaws.{lowest-within}

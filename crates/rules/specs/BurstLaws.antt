@@ -7,17 +7,16 @@ use mathlib.Core.Path.{_≡_, refl, sym, ap, _∙_}
 use mathlib.Core.List.{List, [], _∷_, _++_}
 use lib.ListN.{length, getD, drop}
 use Rattle.rules.specs.declared.Run.{Run}
-use Rattle.rules.specs.declared.Step.{Step}
 use Rattle.rules.specs.declared.Named.{Named}
 use Rattle.rules.specs.declared.Named.the-variants.{Is, NoStep}
 use Rattle.rules.specs.Operations.{unlessRefused}
 use Rattle.rules.specs.Put.{put}
-use Rattle.rules.specs.Runs.{State, after, stateBy}
+use Rattle.rules.specs.Runs.{State, stateBy}
 use Rattle.rules.specs.RunLaws.{StateSound}
 use Rattle.rules.specs.SoundRuns.{after-sound}
 use Rattle.rules.specs.Histories.{ran}
 use Rattle.rules.specs.Calls.{namedAnswer, namedAfter}
-use Rattle.rules.specs.Bursts.{asksOf, stepsIn, answersTo, burstRefusal, Handled}
+use Rattle.rules.specs.Bursts.{asksOf, stepsIn, answersTo, Handled}
 
 -- ---- one ask
 -- an ask in front: the state after it is where the others begin

@@ -10,6 +10,8 @@ use Rattle.rules.specs.declared.Step.{Step}
 use Rattle.rules.specs.declared.Reported.{Reported}
 use Rattle.rules.specs.Runs.{State, Stepped, Freshened}
 use Rattle.rules.specs.Calls.{Called}
+use Rattle.rules.specs.Acts.{Acted}
+use Rattle.rules.specs.Bursts.{Handled}
 use Rattle.rules.specs.Members.{Answered}
 use Rattle.rules.specs.Writing.{Filled}
 use Rattle.rules.specs.Reports.{Told, Printed}
@@ -35,6 +37,16 @@ freshened-determined run before p q = one-outcome (p .refusal, p .state) (q .ref
 pub called-determined : (run : Run) (before : State) (kind first second id : ℕ) {r r′ v v′ : ℕ} {left left′ : State}
     → Called run before kind first second id r v left → Called run before kind first second id r′ v′ left′ → (r ≡ r′) × (v ≡ v′) × (left ≡ left′)
 called-determined run before kind first second id p q = (one-result (p .refusal) (q .refusal), one-result (p .other) (q .other), one-result (p .state) (q .state))
+
+-- the contract of the inner step leaves one answer and one state
+pub acted-determined : (refused : ℕ) (run : Run) (before : State) (step : Step) {r r′ : Answer} {left left′ : State}
+    → Acted refused run before step r left → Acted refused run before step r′ left′ → (r ≡ r′) × (left ≡ left′)
+acted-determined refused run before step p q = one-outcome (p .answer, p .state) (q .answer, q .state)
+
+-- the contract of a burst leaves one refusal, one state and one list of answers
+pub handled-determined : (run : Run) (before : State) (asks given : List ℕ) {r r′ : ℕ} {left left′ : State} {said said′ : List ℕ}
+    → Handled run before asks given r left said → Handled run before asks given r′ left′ said′ → (r ≡ r′) × (left ≡ left′) × (said ≡ said′)
+handled-determined run before asks given p q = (one-result (p .refusal) (q .refusal), one-result (p .state) (q .state), one-result (p .answers) (q .answers))
 
 -- the contract of bulk membership leaves one refusal and one buffer
 pub answered-determined : (t ids before : List ℕ) {r r′ : ℕ} {now now′ : List ℕ} → Answered t ids before r now → Answered t ids before r′ now′ → (r ≡ r′) × (now ≡ now′)

@@ -55,6 +55,7 @@ pub mod Acts
 pub mod ActLaws
 pub mod Bursts
 pub mod BurstLaws
+pub mod BurstCases
 pub mod Promises
 pub mod ReportParts
 pub mod ReportLaws

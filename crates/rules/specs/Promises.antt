@@ -1,11 +1,11 @@
 -- What the whole guarantees: the page to open first. Each theorem here is one sentence of the three demands, said of the very definitions that
 -- the contracts cite, and proved in the module that its last line names. Nothing else stands here.
 -- Assumes nothing.
-use Prim.Native.Nat.{ℕ, suc, _+_, _%_, _^_, _≤_, _<_}
+use Prim.Native.Nat.{ℕ, suc, _+_, _*_, _%_, _^_, _≤_, _<_}
 use mathlib.Core.Bool.{Bool, true, false, _&&_, cond}
 use mathlib.Core.Path.{_≡_}
 use mathlib.Core.List.{List, [], _∷_, _++_}
-use lib.ListN.{length}
+use lib.ListN.{length, getD}
 use lib.Dec.{eqb}
 use Rattle.rules.specs.declared.Run.{Run}
 use Rattle.rules.specs.declared.Answer.{Answer}
@@ -13,6 +13,7 @@ use Rattle.rules.specs.declared.Reported.{Reported}
 use Rattle.rules.specs.declared.Step.{Step}
 use Rattle.rules.specs.declared.Step.the-variants.{Add, Remove, Query, Send, Merge, Deliver, Again, Lose}
 use Rattle.rules.specs.declared.Line.the-variants.{Numbers}
+use Rattle.rules.specs.declared.Named.{Named}
 use Rattle.rules.specs.declared.Named.the-variants.{Is}
 use Rattle.rules.specs.Lengths.{listed, afterAdd, afterRemove, join}
 use Rattle.rules.specs.Table.{lengthOf, rises}
@@ -22,7 +23,8 @@ use Rattle.rules.specs.Histories.{ran, siteIn, isSend, isAgain, isDelive
 use Rattle.rules.specs.Lines.{textOf, namesStep, numbersOf}
 use Rattle.rules.specs.StepLines.{lineOf, stepOf}
 use Rattle.rules.specs.StepLineLaws.{Fits}
-use Rattle.rules.specs.Calls.{Called}
+use Rattle.rules.specs.Calls.{namedAnswer, Called}
+use Rattle.rules.specs.Bursts.{asksOf, stepsIn, Handled}
 use Rattle.rules.specs.Members.{Answered}
 use Rattle.rules.specs.Writing.{Filled}
 use Rattle.rules.specs.Reports.{Told, Printed}
@@ -35,6 +37,7 @@ use Rattle.rules.specs.Absorbing as Absorbing
 use Rattle.rules.specs.Room as Room
 use Rattle.rules.specs.LineLaws as LineLaws
 use Rattle.rules.specs.StepLineLaws as StepLineLaws
+use Rattle.rules.specs.BurstLaws as BurstLaws
 use Rattle.rules.specs.Determined as Determined
 
 -- ---- demand 1
@@ -136,6 +139,21 @@ module _ (run : Run) (s : State) (fresh : freshRefusal run (length (s .words)) (
 pub never-falls : (run : Run) (s : State) (step : Step) (k e : ℕ) → lengthOf (tableAt run (s .words) k) e ≤ lengthOf (tableAt run (after run s step .words) k) e
 never-falls = Absorbing.never-falls
 
+-- ---- a burst, many steps in one call with the state judged once, is its steps one by one: the state that it leaves is the one after them, and the
+-- answer to each ask, in its two places, is that of the step in the state after the asks before it. So what is promised of a list of steps is promised
+-- of bursts
+module _ (run : Run) (s : State) (asks given : List ℕ) (left : State) (said : List ℕ) where
+  pub burst-is-its-steps : Handled run s asks given 0 left said
+      → (left ≡ ran run s (stepsIn (asksOf asks)))
+      × ((before : List Named) (ask : Named) (rest : List Named) → asksOf asks ≡ before ++ (ask ∷ rest)
+      → (getD said (2 * length before) 0 ≡ namedAnswer run (ran run s (stepsIn before)) ask .refusal)
+      × (getD said (2 * length before + 1) 0 ≡ namedAnswer run (ran run s (stepsIn before)) ask .value))
+  burst-is-its-steps = BurstLaws.one-by-one run s asks given left said
+
+  -- demand 1 of a burst: refused, it writes nothing
+  pub refused-burst-writes-nothing : (r : ℕ) → Handled run s asks given (suc r) left said → (left ≡ s) × (said ≡ given)
+  refused-burst-writes-nothing = BurstLaws.refused-burst run s asks given left said
+
 -- ---- "Prove that two results which both satisfy it are equal": where a contract is a record. Every other one is an equation for the result and one for
 -- each thing lent, and then it is `one-outcome`
 pub one-outcome : {A B : Type 0} {result r r′ : A} {left now now′ : B} → (r ≡ result) × (now ≡ left) → (r′ ≡ result) × (now′ ≡ left) → (r ≡ r′) × (now ≡ now′)
@@ -151,6 +169,10 @@ fresh-determined = Determined.freshened-determined
 pub call-determined : (run : Run) (before : State) (kind first second id : ℕ) {r r′ v v′ : ℕ} {left left′ : State}
     → Called run before kind first second id r v left → Called run before kind first second id r′ v′ left′ → (r ≡ r′) × (v ≡ v′) × (left ≡ left′)
 call-determined = Determined.called-determined
+
+pub burst-determined : (run : Run) (before : State) (asks given : List ℕ) {r r′ : ℕ} {left left′ : State} {said said′ : List ℕ}
+    → Handled run before asks given r left said → Handled run before asks given r′ left′ said′ → (r ≡ r′) × (left ≡ left′) × (said ≡ said′)
+burst-determined = Determined.handled-determined
 
 pub members-determined : (t ids before : List ℕ) {r r′ : ℕ} {now now′ : List ℕ} → Answered t ids before r now → Answered t ids before r′ now′ → (r ≡ r′) × (now ≡ now′)
 members-determined = Determined.answered-determined

@@ -2,20 +2,16 @@
 -- Assumes nothing.
 use Prim.Native.Nat.{ℕ, zero, suc}
 use native.Mathlib.Nat.{suc-ne-zero}
-use mathlib.Core.Bool.{Bool, true, false, _&&_, not, cond}
-use mathlib.Core.Path.{_≡_, refl, sym, ap, _∙_}
+use mathlib.Core.Bool.{Bool, true, false}
+use mathlib.Core.Path.{_≡_, refl}
 use mathlib.Core.List.{List}
 use lib.ListN.{length}
 use Rattle.rules.specs.declared.Run.{Run}
 use Rattle.rules.specs.declared.Sight.{Sight}
 use Rattle.rules.specs.declared.Step.{Step}
-use Rattle.rules.specs.View.{parts}
-use Rattle.rules.specs.Lengths.{M}
 use Rattle.rules.specs.Operations.{unlessRefused}
-use Rattle.rules.specs.Runs.{width, sizesRight, tablesSound, allSound, firstGiven, stepTests, refusalIn, wordsIn}
-use Rattle.sites.specs.declared.verdict.Verdict.{Verdict}
-use Rattle.sites.specs.Verdicts.{Ready, judgement, refusedVerdict, stepRefusal, stepVerdict, stepWords, verdictUnder, wordsUnder}
-use Rattle.sites.proofs.Judging.{sized}
+use Rattle.rules.specs.Runs.{sizesRight, allSound, firstGiven, refusalIn, wordsIn}
+use Rattle.sites.specs.Verdicts.{judgement, refusedVerdict, stepRefusal, stepVerdict, stepWords, verdictUnder, wordsUnder}
 
 module _ (run : Run) (ws : List ℕ) (si : Sight) where
   -- both tests passed

@@ -16,7 +16,7 @@ use prog.Routine.{Routine}
 use prog.Wp.{Heap, Env, Calls, Loops}
 use ghost.Atoms.{Atoms}
 use contract.Monad.{Fun, fact}
-use types.Kit.{Given, Item, ‵, raw, mean, some, later, _⊛_, Seq, Post, runs, lands, _$_, _∵_, !, qed, move, use1, drop, split, join, pick, await, fsplit, fjoin, feqL, frame, done}
+use types.Kit.{Given, Item, ‵, raw, mean, some, later, _⊛_, Seq, Post, runs, lands, _$_, _∵_, !, qed, move, use1, drop, split, join, pick, await, fsplit, fjoin, feqL, done}
 use types.Run.{Opds}
 use sound.WpLaws.{FmC}
 use denote.RattleType.{owns}

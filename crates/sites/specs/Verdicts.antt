@@ -2,7 +2,7 @@
 -- Assumes nothing.
 use Prim.Native.Nat.{ℕ, zero, suc, _*_, _≤_}
 use mathlib.Core.Path.{_≡_}
-use mathlib.Core.Bool.{Bool, true, false, not, cond}
+use mathlib.Core.Bool.{Bool, true, false, cond}
 use mathlib.Core.List.{List, [], _∷_}
 use lib.ListN.{length, replicate}
 use lib.Dec.{eqb}
@@ -18,7 +18,7 @@ use Rattle.rules.specs.Lengths.{M}
 use Rattle.rules.specs.Operations.{unlessRefused}
 use Rattle.rules.specs.Parcels.{noParcel}
 use Rattle.rules.specs.Ledgers.{noCounter, absorbedCounter}
-use Rattle.rules.specs.Runs.{width, tablesSound, noFreeSlot, firstGiven, Test, _when_, judgeTests, stepTests, refusalIn, valueIn, wordsIn, placeIn, parcelIn, counterOf, freshRefusal}
+use Rattle.rules.specs.Runs.{width, tablesSound, noFreeSlot, firstGiven, _when_, judgeTests, stepTests, valueIn, wordsIn, placeIn, parcelIn, counterOf, freshRefusal}
 use Rattle.sites.specs.declared.verdict.Verdict.{Verdict}
 
 -- nothing to change

@@ -7,6 +7,7 @@ use rules::Parcel;
 use rules::Run;
 ghost use mathlib.Core.Path.{_≡_};
 ghost use Rattle.rules.specs.Area.{readRefusal, areaAfter};
+ghost use Rattle.rules.specs.Bursts.{Handled};
 ghost use Rattle.rules.specs.Calls.{Called};
 ghost use Rattle.rules.specs.Members.{Answered};
 ghost use Rattle.rules.specs.Reports.{Told};
@@ -58,6 +59,26 @@ pub extern "C" fn wg_step(
     let answer = sites::step(words, slots, ledger, run, step);
     *value = answer.value;
     answer.refusal
+}
+
+// Many steps of a run in one call, four numbers asked and two answered for each: the state is judged once.
+#[no_mangle]
+pub extern "C" fn wg_burst(
+    words: &mut [u64],
+    slots: &mut [Parcel],
+    ledger: &mut Ledger,
+    sites: u64,
+    capacity: u64,
+    asks: &[u64],
+    answers: &mut [u64],
+) -> u32
+    ensures { λ r. ⌜ Handled (record { sites = sites; capacity = capacity }) (lent (now (words .entry)) (now (slots .entry)) (now (ledger .entry))) (now (asks .entry)) (now (answers .entry)) r (lent (now (words .exit)) (now (slots .exit)) (now (ledger .exit))) (now (answers .exit)) ⌝ }
+{
+    let run = Run {
+        sites: sites,
+        capacity: capacity,
+    };
+    bursts::burst(words, slots, ledger, run, asks, answers)
 }
 
 // Bulk membership: an answer for each id, in the bits of the answers.

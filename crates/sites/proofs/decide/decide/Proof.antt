@@ -1,14 +1,13 @@
 -- `sites::decide::decide`: refused before, or decided by the function of the step.
 -- Assumes nothing.
 use Prim.Native.Nat.{ℕ}
-use mathlib.Core.Path.{_≡_, refl, sym, ap, _∙_}
+use mathlib.Core.Path.{_≡_, refl, _∙_}
 use mathlib.Core.List.{List}
 use denote.Ref.{now}
 use Rattle.rules.specs.declared.Sight.{Sight}
 use Rattle.rules.specs.Runs.{wordsIn}
-use Rattle.sites.specs.Verdicts.{Ready, lookedAt, verdictUnder, wordsUnder}
+use Rattle.sites.specs.Verdicts.{Ready, lookedAt}
 use Rattle.sites.proofs.Deciding.{under-out, under-in, still-words}
-use native.Mathlib.Omega.{arith}
 use borrow.Author.Needs.{needs}
 use Rattle.sites.proofs.decide.decide.Statement.{statement}
 use Rattle.sites.proofs.decide.decide.Tie as tie

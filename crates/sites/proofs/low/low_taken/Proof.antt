@@ -1,6 +1,6 @@
 -- `sites::low::low_taken`: step by step.
 -- Assumes nothing.
-use mathlib.Core.Path.{refl, _∙_}
+use mathlib.Core.Path.{refl}
 use Rattle.rules.specs.Acts.{lowTaken}
 use borrow.Author.Needs.{needs}
 use Rattle.sites.proofs.low.low_taken.Statement.{statement}
