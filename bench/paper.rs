@@ -8,8 +8,6 @@ use std::collections::HashMap;
 
 const INSTANCES: usize = 10;
 const RUNS: usize = 2;
-const SLOTS: usize = 64;
-const SLOTS_FOR_BURSTS: usize = 256; // an iteration has up to 25 updates, each of them for 9 others
 
 struct Update {
     at: usize,
@@ -58,8 +56,8 @@ fn script(r: &mut Random, removals: u64) -> Script {
     Script { ids, start, iterations }
 }
 
-fn tables(s: &Script, slots: usize) -> State {
-    let mut state = State::fresh(INSTANCES, 2048, slots);
+fn tables(s: &Script) -> State {
+    let mut state = State::fresh(INSTANCES, 2048, 64);
     for site in 0..INSTANCES {
         let table = state.table_mut(site);
         let held = s.ids.iter().zip(&s.start).filter(|(_, l)| **l > 0);
@@ -115,10 +113,6 @@ impl Queue {
         self.asks.extend(ask);
     }
 
-    fn len(&self) -> u64 {
-        self.asks.len() as u64 / 4
-    }
-
     // Takes all of them in one call; each must be accepted.
     fn drain(&mut self, state: &mut State) {
         self.answers.resize(self.asks.len() / 2, 0);
@@ -128,19 +122,17 @@ impl Queue {
     }
 }
 
-// The updates of an iteration in one burst, their parcels in a second, the deliveries in a third. Every slot is free before the second, so that
-// parcel k takes slot k.
+// The same steps in the same order, one burst for each iteration. No parcel waits between two iterations, so that each takes slot 0 and leaves it free.
 fn library_bursts(state: &mut State, s: &Script) {
     let mut queue = Queue::default();
     for updates in &s.iterations {
         updates.iter().for_each(|u| queue.push([kind(u), u.at as u64, 0, u.id]));
-        queue.drain(state);
         for u in updates {
-            others(u).for_each(|to| queue.push([SEND, u.at as u64, to as u64, u.id]));
+            for to in others(u) {
+                queue.push([SEND, u.at as u64, to as u64, u.id]);
+                queue.push([DELIVER, 0, 0, 0]);
+            }
         }
-        let parcels = queue.len();
-        queue.drain(state);
-        (0..parcels).for_each(|slot| queue.push([DELIVER, slot, 0, 0]));
         queue.drain(state);
     }
 }
@@ -210,32 +202,32 @@ pub fn all(rows: &mut Vec<Row>, rounds: usize) {
     for removals in [0, 10, 20, 30, 40, 50] {
         let scripts: Vec<Script> = (0..RUNS).map(|_| script(&mut r, removals)).collect();
         for s in &scripts {
-            let (mut state, mut in_bursts, mut map) = (tables(s, SLOTS), tables(s, SLOTS_FOR_BURSTS), maps(s));
+            let (mut state, mut in_bursts, mut map) = (tables(s), tables(s), maps(s));
             library_updates(&mut state, s);
             library_bursts(&mut in_bursts, s);
             map_updates(&mut map, s);
             same(&state, &map);
             same(&in_bursts, &map);
-            let (mut state, mut map) = (tables(s, SLOTS), maps(s));
+            let (mut state, mut map) = (tables(s), maps(s));
             library_tables(&mut state, s);
             map_tables(&mut map, s);
             same(&state, &map);
         }
-        let run_library = |work: fn(&mut State, &Script), slots: usize, s: &Script| { let mut state = tables(s, slots); timed(|| work(&mut state, s)) };
+        let run_library = |work: fn(&mut State, &Script), s: &Script| { let mut state = tables(s); timed(|| work(&mut state, s)) };
         let run_map = |work: fn(&mut [HashMap<u64, u64>], &Script), s: &Script| { let mut map = maps(s); timed(|| work(&mut map, s)) };
         let against = "a causal-length set in a hash map";
         let contenders: Vec<Contender> = vec![
-            ("library", Box::new(|i| run_library(library_updates, SLOTS, &scripts[i]))),
+            ("library", Box::new(|i| run_library(library_updates, &scripts[i]))),
             (against, Box::new(|i| run_map(map_updates, &scripts[i]))),
         ];
         measure(rows, &format!("the paper's benchmark, single updates, {removals} % removals"), "ms", 1e6, RUNS, rounds, contenders);
         let contenders: Vec<Contender> = vec![
-            ("library", Box::new(|i| run_library(library_bursts, SLOTS_FOR_BURSTS, &scripts[i]))),
+            ("library", Box::new(|i| run_library(library_bursts, &scripts[i]))),
             (against, Box::new(|i| run_map(map_updates, &scripts[i]))),
         ];
         measure(rows, &format!("the paper's benchmark, single updates in bursts, {removals} % removals"), "ms", 1e6, RUNS, rounds, contenders);
         let contenders: Vec<Contender> = vec![
-            ("library", Box::new(|i| run_library(library_tables, SLOTS, &scripts[i]))),
+            ("library", Box::new(|i| run_library(library_tables, &scripts[i]))),
             (against, Box::new(|i| run_map(map_tables, &scripts[i]))),
         ];
         measure(rows, &format!("the paper's benchmark, whole tables, {removals} % removals"), "ms", 1e6, RUNS, rounds, contenders);
