@@ -27,6 +27,7 @@ use denote.Triple.Walked.{says}
 use denote.Ref.{RefT, MutRef}
 use denote.Slice.{sliceVal, MutSlice, finally}
 use denote.Steps.{nothing, heard, peeks, owned}
+use denote.Struct.Laws as LL
 use denote.Enum.Laws as EL
 use denote.Triple.Spec.{tripleOf}
 use denote.Triple.Statement.{Contract, Triple}
@@ -36,15 +37,18 @@ use Rattle.rules.specs.declared.Ledger.{Ledger}
 use Rattle.rules.specs.declared.Parcel.{Parcel}
 use Rattle.rules.specs.declared.Answer.{Answer}
 use Rattle.rules.specs.declared.Run.{Run}
+use Rattle.rules.specs.declared.Scan.{Scan}
 use Rattle.rules.specs.declared.Step.{Step}
 use Rattle.rules.specs.Runs.{lent}
 use Rattle.rules.specs.Acts.{Clear, Acted}
-use Rattle.ledger.proofs.Lent.{ref, val, holds}
+use Rattle.ledger.proofs.Lent.{ref, val, is-at, holds}
 use Rattle.rules.proofs.Ledger as T
 use Rattle.rules.proofs.Parcel as P
 use Rattle.rules.proofs.Answer as N
 use Rattle.rules.proofs.Run as U
 use Rattle.rules.proofs.Run.Laws as U′
+use Rattle.rules.proofs.Scan as S
+use Rattle.rules.proofs.Scan.Laws as S′
 use Rattle.rules.proofs.Step as Q
 use Rattle.rules.proofs.Step.Laws as Q′
 use Rattle.sites.proofs.lent.act as act
@@ -59,6 +63,10 @@ sizes-val = val U.the-type U′.the-laws
 
 abbrev pub asked-val : Step → Val
 asked-val = EL.val Q.the-type Q′.the-laws
+
+-- the lowest free slot of what `scan_slots` returned is a number that can be handed on
+pub free-fits : (scan : Scan) (w : Val) → Is S.the-row scan (w ∷ []) → scan .free < 2 ^ 64
+free-fits scan w is = LL.owed S.the-type S′.the-laws scan _ (is-at S.the-type S′.the-laws scan scan w is refl) .1 .1 .0 .1
 
 module _ (ws : List ℕ) (ss : List Parcel) (h : Ledger) (sizes : Run) (asked : Step) (refused low : ℕ) (m₀ m₁ b₀ o₀ b₁ o₁ b₂ o₂ : ℕ) (γ₀ γ₁ γ₂ : GName) where
   -- the arguments, and their machine values; m₀ and m₁ are the counts that those of the slices say

@@ -52,7 +52,7 @@ use Rattle.rules.specs.Runs.{lent, Stepped}
 use Rattle.sites.specs.Verdicts.{seenAs, judgement}
 use Rattle.ledger.proofs.Lent.{ref, val, typed, told, is-at, unlocks, locks, holds}
 use Rattle.sites.proofs.Lending.{Kept, lends-out, takes-back}
-use Rattle.sites.proofs.OnAct.{OneAct, gave-act}
+use Rattle.sites.proofs.OnAct.{OneAct, gave-act, free-fits}
 use Rattle.sites.proofs.Outcomes.{judged-all, judged-sound, judged-step, scanned-low}
 use Rattle.rules.proofs.Ledger as T
 use Rattle.rules.proofs.Ledger.Laws as T′
@@ -97,10 +97,6 @@ scanned = val S.the-type S′.the-laws
 
 abbrev step-of : Step → Val
 step-of = EL.val Q.the-type Q′.the-laws
-
--- the lowest free slot of what `scan_slots` returned
-free-fits : (scan : Scan) (w : Val) → Is S.the-row scan (w ∷ []) → scan .free < 2 ^ 64
-free-fits scan w is = LL.owed S.the-type S′.the-laws scan _ (is-at S.the-type S′.the-laws scan scan w is refl) .1 .1 .0 .1
 
 module _ {M : Type 1} (𝓤 : URA M) (H : Heap 𝓤) (A : Atoms 𝓤) (mem : Memory → SProp 𝓤) (run : Routine → Fun 𝓤) where
   -- the contracts that the proof cites
