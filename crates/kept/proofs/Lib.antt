@@ -1,3 +1,5 @@
 pub mod Elements
+pub mod LentRun
 pub mod Locals
+pub mod OnAct
 pub mod OnStep

@@ -4,7 +4,7 @@
 --     on-step     the caller owns the three things in memory: it lends them for three lifetimes that are made for this call, and has them back. From [the words' cells; the slots' cells; the ledger; Γ] to the same after the step. The operands are read where the context is [what `step` asks; what is kept of the ledger, of the slots and of the words; Γ]
 -- m₀ and m₁ are the counts that the two slices' machine values say.
 -- Assumes `Given`, and of the table of calls `FmC` and that `step` meets its contract.
-use mathlib.Core.Path.{_≡_, refl}
+use mathlib.Core.Path.{_≡_}
 use Prim.Native.Nat.{ℕ}
 use mathlib.Core.List.{[], _∷_, List}
 use lib.ListN.{length}
@@ -19,10 +19,9 @@ use prog.Routine.{Routine}
 use prog.Wp.{Heap, Env, Calls, Loops}
 use ghost.Atoms.{Atoms}
 use contract.Monad.{Fun, fact}
-use types.Kit.{Given, Item, ‵, raw, mean, some, later, _⊛_, Seq, Post, runs, lands, _$_, _∵_, !, qed, move, use1, use3, rewrite, drop, split, join, pick, await, fsplit, fjoin, feqL, frame, done}
+use types.Kit.{Given, Item, ‵, raw, mean, some, later, _⊛_, Seq, Post, runs, lands, _$_, _∵_, !, qed, move, use1, drop, split, join, pick, await, fsplit, fjoin, feqL, frame, done}
 use types.Run.{Opds}
-use types.Tokens.{lft-new, lft-end}
-use types.SemTy.{cells, Arr, Body}
+use types.SemTy.{cells, Body}
 use sound.WpLaws.{FmC}
 use denote.RattleType.{owns}
 use denote.Laws.{Is, shows}
@@ -30,7 +29,7 @@ use denote.Memory.{mem}
 use denote.Builtin.{u64}
 use denote.Ref.{RefT, MutRef}
 use denote.Slice.{sliceVal, MutSlice, Room, finally}
-use denote.Lend.{Held, lends-slice, slice-back, lends-ref, ref-back}
+use denote.Lend.{Held}
 use denote.Steps.{nothing, heard, peeks, owned}
 use denote.Enum.Laws as EL
 use denote.Triple.Spec.{tripleOf}
@@ -44,6 +43,7 @@ use Rattle.rules.specs.declared.Run.{Run}
 use Rattle.rules.specs.declared.Step.{Step}
 use Rattle.rules.specs.Runs.{lent, Stepped}
 use Rattle.kept.proofs.Locals.{ref, val, holds}
+use Rattle.kept.proofs.LentRun.{lends-run, run-back}
 use Rattle.rules.proofs.Ledger as T
 use Rattle.rules.proofs.Parcel as P
 use Rattle.rules.proofs.Answer as N
@@ -119,18 +119,6 @@ module _ {M : Type 1} {𝓤 : URA M} {H : Heap 𝓤} {A : Atoms 𝓤} {K : Type 
       → Seq K W (‵ (cells (mem u64) zs₀ b₀ o₀) ∷ ‵ (cells (mem P.the-row) zs₁ b₁ o₁) ∷ ‵ (mem T.the-row .lies k b₂ o₂) ∷ Γ) (lands C Λ E d w rest q))
       → Seq K W (‵ (cells (mem u64) ws b₀ o₀) ∷ ‵ (cells (mem P.the-row) ss b₁ o₁) ∷ ‵ (mem T.the-row .lies h b₂ o₂) ∷ Γ) (runs C Λ E (seq (call #sites·step xs d) rest) q)
   on-step t at-mem run fm known ws ss h sizes asked m₀ m₁ b₀ o₀ b₁ o₁ b₂ o₂ e₀ e₁ room₀ room₁ is-sizes is-asked opds k =
-      lft-new t tt (λ ν₀. lft-new t tt (λ ν₁. lft-new t tt (λ ν₂. move t (3 ∷ []) $
-      use1 W (later (some (λ (δ : GName). ‵ (MutSlice (named 0) (ν₀ ∷ []) u64 .own (ref b₀ o₀ δ ws) (sliceVal (b₀, o₀) (length ws) ∷ [])) ⊛ ‵ (flent (ν₀ ∷ []) (Held u64 (length ws) b₀ o₀ δ))))) (lends-slice 𝓤 H A W u64 (named 0) (ν₀ ∷ []) ws b₀ o₀ room₀) $ await t tt $ pick t (λ δ₀. split t $
-      rewrite t 0 (λ (m : ℕ). ‵ (MutSlice (named 0) (ν₀ ∷ []) u64 .own (ref b₀ o₀ δ₀ ws) (sliceVal (b₀, o₀) m ∷ []))) e₀ refl $
-      move t (5 ∷ []) $ use1 W (later (some (λ (δ : GName). ‵ (MutSlice (named 1) (ν₁ ∷ []) P.the-row .own (ref b₁ o₁ δ ss) (sliceVal (b₁, o₁) (length ss) ∷ [])) ⊛ ‵ (flent (ν₁ ∷ []) (Held P.the-row (length ss) b₁ o₁ δ))))) (lends-slice 𝓤 H A W P.the-row (named 1) (ν₁ ∷ []) ss b₁ o₁ room₁) $ await t tt $ pick t (λ δ₁. split t $
-      rewrite t 0 (λ (m : ℕ). ‵ (MutSlice (named 1) (ν₁ ∷ []) P.the-row .own (ref b₁ o₁ δ₁ ss) (sliceVal (b₁, o₁) m ∷ []))) e₁ refl $
-      move t (7 ∷ []) $ use1 W (later (some (λ (δ : GName). ‵ (MutRef (named 2) (ν₂ ∷ []) T.the-row .own (ref b₂ o₂ δ h) (vptr b₂ o₂ ∷ [])) ⊛ ‵ (flent (ν₂ ∷ []) (Body (mem T.the-row) b₂ o₂ δ))))) (lends-ref 𝓤 H A W T.the-row (named 2) (ν₂ ∷ []) h b₂ o₂) $ await t tt $ pick t (λ δ₂. split t $
-      -- [ledger; what is kept of it; slots; what is kept of them; words; what is kept of them; the tokens of ν₂, ν₁ and ν₀; Γ]
-      move t (8 ∷ 7 ∷ 6 ∷ 4 ∷ 2 ∷ 0 ∷ []) $ gave-step t at-mem run fm known ws ss h sizes asked m₀ m₁ b₀ o₀ b₁ o₁ b₂ o₂ (ν₀ ∷ []) (ν₁ ∷ []) (ν₂ ∷ []) fullShare fullShare fullShare δ₀ δ₁ δ₂ is-sizes is-asked (opds ν₀ ν₁ ν₂ δ₀ δ₁ δ₂) (λ w r zs₀ zs₁ j e len₀ len₁ is.
-      -- [the last words; the last slots; the last ledger; the tokens of ν₀, ν₁ and ν₂; what is kept of the ledger, of the slots and of the words; Γ]
-      move t (5 ∷ []) $ lft-end t tt $ move t (0 ∷ 6 ∷ 3 ∷ []) $ use3 W (later (‵ (mem T.the-row .lies j b₂ o₂))) (ref-back 𝓤 H A W T.the-row (ν₂ ∷ []) δ₂ j b₂ o₂) $ await t tt $
-      -- [the ledger; the last words; the last slots; the tokens of ν₀ and ν₁; what is kept of the slots and of the words; Γ]
-      move t (4 ∷ []) $ lft-end t tt $ move t (0 ∷ 5 ∷ 3 ∷ []) $ use3 W (later (‵ (Arr (mem P.the-row) (length ss) .lies zs₁ b₁ o₁))) (slice-back 𝓤 H A W P.the-row (ν₁ ∷ []) δ₁ zs₁ (length ss) b₁ o₁) $ await t tt $ fsplit t $ drop t $
-      -- [the slots' cells; the ledger; the last words; the token of ν₀; what is kept of the words; Γ]
-      move t (3 ∷ []) $ lft-end t tt $ move t (0 ∷ 4 ∷ 3 ∷ []) $ use3 W (later (‵ (Arr (mem u64) (length ws) .lies zs₀ b₀ o₀))) (slice-back 𝓤 H A W u64 (ν₀ ∷ []) δ₀ zs₀ (length ws) b₀ o₀) $ await t tt $ fsplit t $ drop t $
-      k w r zs₀ zs₁ j e len₀ len₁ is)))))))
+      lends-run t tt ws ss h m₀ m₁ b₀ o₀ b₁ o₁ b₂ o₂ e₀ e₁ room₀ room₁ (λ ν₀ ν₁ ν₂ δ₀ δ₁ δ₂.
+      gave-step t at-mem run fm known ws ss h sizes asked m₀ m₁ b₀ o₀ b₁ o₁ b₂ o₂ (ν₀ ∷ []) (ν₁ ∷ []) (ν₂ ∷ []) fullShare fullShare fullShare δ₀ δ₁ δ₂ is-sizes is-asked (opds ν₀ ν₁ ν₂ δ₀ δ₁ δ₂) (λ w r zs₀ zs₁ j e len₀ len₁ is.
+      run-back t tt (length ws) (length ss) b₀ o₀ b₁ o₁ b₂ o₂ ν₀ ν₁ ν₂ δ₀ δ₁ δ₂ zs₀ zs₁ j $ k w r zs₀ zs₁ j e len₀ len₁ is))

@@ -3,7 +3,7 @@
 -- Assumes nothing.
 use Prim.Native.Nat.{ℕ, suc, _+_, _≤_}
 use native.Mathlib.Omega.{arith}
-use mathlib.Core.Path.{_≡_, refl, sym, ap, _∙_}
+use mathlib.Core.Path.{_≡_, refl, sym, _∙_}
 use mathlib.Core.List.{List, [], _∷_, _++_}
 use lib.ListN.{length, set, length-append}
 use Rattle.rules.specs.Put.{put, put-nil, put-length, put-put, put-cons}
@@ -40,17 +40,9 @@ left-fits l = omega (arith, l .behind, l .room)
 pub left-as : {out : List ℕ} {place : ℕ} {a b : List ℕ} {end : ℕ} {wanted : List ℕ} → a ≡ b → Left out place a end wanted → Left out place b end wanted
 left-as e l = rw (← e) l
 
--- the same buffer and place by other names
-pub left-same : {out out′ : List ℕ} {place place′ : ℕ} {text : List ℕ} {end : ℕ} {wanted : List ℕ} → out ≡ out′ → place ≡ place′ → Left out′ place′ text end wanted → Left out place text end wanted
-left-same a b l = rw (a, b) l
-
 -- ---- what a writer owes, once the last piece is laid
 pub laid-last : {out before : List ℕ} {place start next : ℕ} {text after a : List ℕ} → Left out place a (start + length text) (put before start text) → Laid out place a next after → Laid before start text next after
 laid-last l w = record { behind = w .behind ∙ l .behind; bytes = w .bytes ∙ l .bytes }
-
--- the buffer that is wanted is as long as the one lent
-pub left-long : (before : List ℕ) (start : ℕ) (text : List ℕ) {out : List ℕ} {place next : ℕ} {after a : List ℕ} → start + length text ≤ length before → Left out place a (start + length text) (put before start text) → Laid out place a next after → length after ≡ length before
-left-long before start text h l w = ap length (w .bytes ∙ l .bytes) ∙ put-length before start text h
 
 -- or where nothing is left
 pub laid-none : {out before : List ℕ} {place start : ℕ} {text : List ℕ} → Left out place [] (start + length text) (put before start text) → Laid before start text place out

@@ -1,128 +1,156 @@
--- The pass over the input: what is known before each byte, and how a byte keeps it.
+-- The pass over the input: what is known before each line, and how a line keeps it.
 -- Assumes nothing.
-use Prim.Native.Nat.{ℕ, suc, _+_, _-_, _≤_, _<_}
+use Prim.Native.Nat.{ℕ, zero, suc, _+_, _-_, _≤_, _<_}
 use native.Mathlib.Omega.{arith}
 use native.Mathlib.Numerals.{add-one}
-use mathlib.Core.Path.{_≡_, refl, sym, ap, _∙_}
+use mathlib.Core.Path.{_≡_, refl, sym, ap, subst, _∙_}
 use mathlib.Core.List.{List, [], _∷_, _++_}
-use lib.ListN.{length, take, drop, getD, length-drop}
-use lib.Seq.{drop-cons, drop-length, take-suc, getD-drop, length-take-le}
+use lib.ListN.{length, take, drop, getD}
+use lib.Seq.{slice, slice-empty, drop-length}
+use Rattle.rules.specs.declared.Answer.{Answer}
 use Rattle.rules.specs.declared.Named.{Named}
 use Rattle.rules.specs.declared.Named.the-variants.{Is, NoStep}
-use Rattle.rules.specs.Runs.{State, firstGiven, sizesRight, freshRefusal, afterFresh, after}
-use Rattle.rules.specs.Parcels.{cleared}
+use Rattle.rules.specs.Runs.{State}
 use Rattle.rules.specs.RunLaws.{StateSound}
-use Rattle.rules.specs.SoundRuns.{fresh-sound, after-sound}
-use Rattle.rules.specs.Put.{put, put-length}
+use Rattle.rules.specs.Acts.{Acted, answerUnder, afterUnder}
+use Rattle.rules.specs.Put.{put}
 use Rattle.rules.specs.StepLines.{stepOf}
-use Rattle.rules.specs.Reports.{reportRun, reportStart, lineEnd, inputLimit, reportRoom, refusedLine, endLines, saidOf, stateOf, reportFrom, reportOf}
-use Rattle.rules.specs.ReportLaws.{report-line, report-byte, report-done, report-unended, report-starts, report-fits}
-use Rattle.report.specs.Lines.{Taken}
+use Rattle.rules.specs.Reports.{reportRun, reportStart, lineEnd, inputLimit, reportRoom, refusedLine, endLines, lineBy, saidOf, stateOf, reportFrom, reportOf}
+use Rattle.rules.specs.ReportLaws.{report-done, report-starts, report-fits}
+use Rattle.rules.specs.ReportPlaces.{report-line-at, report-byte-at, report-unended-at, start-sound, state-sound}
+use Rattle.report.specs.Laid.{Laid}
+use Rattle.report.specs.declared.ahead.Ahead.{Ahead}
+use Rattle.report.specs.Ahead.{Within, Ends, refusedAs, askedStep, ahead, Next}
 use Rattle.report.proofs.Left.{Left, left-all, left-room, left-next, left-as}
+use Rattle.report.proofs.Words.{said-none, said-step}
 
--- the bytes of a slice from one place up to another
-abbrev pub part : List ℕ → ℕ → ℕ → List ℕ
-part input start i = take (i - start) (drop start input)
+-- ---- where a line ends
+module _ (input : List ℕ) (start : ℕ) where
+  pub within-start : start ≤ length input → Within input start start
+  within-start h = record { begun = omega arith; inside = h; unended = λ i a b. absurd (omega arith) }
 
+  pub within-more : (i : ℕ) → Within input start i → i < length input → (getD input i 0 ≡ lineEnd → ⊥) → Within input start (i + 1)
+  within-more i w h other = record {
+    begun = omega (arith, w .begun);
+    inside = omega arith;
+    unended = λ j a b e. below-or j b (λ l. w .unended j a l e) (λ same. other (ap (λ (k : ℕ). getD input k 0) (sym same) ∙ e));
+  }
+    where
+      below-or : (j : ℕ) → j < i + 1 → (j < i → ⊥) → (j ≡ i → ⊥) → ⊥
+      below-or j b f g = g (omega (arith, f))
+
+-- ---- what it asks for
+-- the bytes from one place up to another, as the code takes them and as the laws of `ReportPlaces` say them
+part-is : (input : List ℕ) (start end : ℕ) → start ≤ end → take (end - start) (drop start input) ≡ slice start end input
+part-is input zero end h = let z : end - 0 ≡ end = omega arith in ap (λ (k : ℕ). take k input) z
+part-is input (suc start) zero h = absurd (omega arith)
+part-is [] (suc start) (suc end) h = none (suc end - suc start)
+  where
+    none : (k : ℕ) → _≡_ {A = List ℕ} (take k []) []
+    none zero = refl
+    none (suc k) = refl
+part-is (c ∷ cs) (suc start) (suc end) h = let z : suc end - suc start ≡ end - start = omega arith in ap (λ (k : ℕ). take k (drop start cs)) z ∙ part-is cs start end (omega arith)
+
+module _ (input : List ℕ) (start : ℕ) where
+  -- with k bytes read that end no line, the report is what it was
+  read-on : (n : ℕ) (s : State) (k : ℕ) → start + k ≤ length input → ((i : ℕ) → start ≤ i → i < start + k → getD input i 0 ≡ lineEnd → ⊥)
+      → reportFrom n s (slice start start input) (drop start input) ≡ reportFrom n s (slice start (start + k) input) (drop (start + k) input)
+  read-on n s zero h none = let z : start + 0 ≡ start = omega arith in rw z
+  read-on n s (suc k) h none =
+      let z : start + suc k ≡ suc (start + k) = omega arith in
+      read-on n s k (omega arith) (λ i a b. none i a (omega arith))
+      ∙ report-byte-at n s input start (start + k) (omega arith) (omega arith) (none (start + k) (omega arith) (omega arith))
+      ∙ ap (λ (i : ℕ). reportFrom n s (slice start i input) (drop i input)) (sym z)
+
+  module _ (end : ℕ) (e : Ends input start end) where
+    up-to : (n : ℕ) (s : State) → reportFrom n s [] (drop start input) ≡ reportFrom n s (slice start end input) (drop end input)
+    up-to n s =
+        let w = e .within in
+        let z : start + (end - start) ≡ end = omega (arith, w .begun) in
+        ap (λ (l : List ℕ). reportFrom n s l (drop start input)) (sym (slice-empty start input))
+        ∙ read-on n s (end - start) (omega (arith, w .begun, w .inside)) (λ i a b. w .unended i a (omega (arith, w .begun)))
+        ∙ ap (λ (i : ℕ). reportFrom n s (slice start i input) (drop i input)) z
+
+    -- the line is ended
+    pub next-line : (named : Named) (r : Ahead) → end < length input → named ≡ stepOf (take (end - start) (drop start input)) → r ≡ ahead named (end + 1) → Next input start r
+    next-line named r h read is = subst (Next input start) (sym is) (record {
+      names = named;
+      is = refl;
+      behind = omega (arith, e .within .begun);
+      inside = omega arith;
+      report = λ n s. up-to n s ∙ report-line-at n s input start end h (e .ends h) ∙ goes-on n s;
+    })
+      where
+        same : stepOf (slice start end input) ≡ named
+        same = ap stepOf (sym (part-is input start end (e .within .begun))) ∙ sym read
+
+        goes-on : (n : ℕ) (s : State)
+            → saidOf n s (stepOf (slice start end input)) ++ reportFrom (suc n) (stateOf s (stepOf (slice start end input))) (slice (suc end) (suc end) input) (drop (suc end) input)
+            ≡ saidOf n s named ++ reportFrom (suc n) (stateOf s named) [] (drop (end + 1) input)
+        goes-on n s = rw (same, slice-empty (suc end) input, add-one end)
+
+    -- or the input ends before it
+    pub next-unended : (r : Ahead) → start < length input → end ≡ length input → r ≡ ahead NoStep end → Next input start r
+    unfolding stateOf
+    next-unended r h at is = subst (Next input start) (sym is) (record {
+      names = NoStep;
+      is = refl;
+      behind = omega arith;
+      inside = omega arith;
+      report = λ n s. up-to n s ∙ ap (λ (i : ℕ). reportFrom n s (slice start i input) (drop i input)) at ∙ report-unended-at n s input start h ∙ goes-on n s;
+    })
+      where
+        goes-on : (n : ℕ) (s : State) → refusedLine n 11 ++ endLines s ≡ saidOf n s NoStep ++ reportFrom (suc n) s [] (drop end input)
+        goes-on n s = rw (said-none n s NoStep refl, at, drop-length input, report-done (suc n) s)
+
+-- ---- the pass
 -- line n begins at `start`, the state is s, and what is left of the report goes to `place`; `first` is the buffer as it was lent
-pub record Passed (input first out : List ℕ) (s : State) (n start place i : ℕ) : Type 0 where
-  pub begun : start ≤ i
-  pub inside : i ≤ length input
-  pub count : n ≤ i + 1
+pub record Passed (input first out : List ℕ) (s : State) (n start place : ℕ) : Type 0 where
+  pub inside : start ≤ length input
+  pub count : n ≤ start + 1
   pub sound : StateSound reportRun s
-  pub left : Left out place (reportFrom n s (part input start i) (drop i input)) (0 + length (reportOf input)) (put first 0 (reportOf input))
+  pub left : Left out place (reportFrom n s [] (drop start input)) (0 + length (reportOf input)) (put first 0 (reportOf input))
 
--- ---- the start
-start-sound : StateSound reportRun reportStart
-unfolding freshRefusal firstGiven sizesRight afterFresh cleared
-start-sound = fresh-sound reportRun reportStart refl
-
-pub passed-start : (input first : List ℕ) (s : State) → length input ≤ inputLimit → reportRoom (length input) ≤ length first → s ≡ reportStart → Passed input first first s 1 0 0 0
-passed-start input first s h r e = record {
-  begun = omega arith;
+pub passed-start : (input first : List ℕ) → length input ≤ inputLimit → reportRoom (length input) ≤ length first → Passed input first first reportStart 1 0 0
+passed-start input first h r = record {
   inside = omega arith;
   count = omega arith;
-  sound = rw e start-sound;
-  left = rw e (left-as (report-starts input) (left-all first 0 (reportOf input) (omega (arith, report-fits input h))));
+  sound = start-sound;
+  left = left-as (report-starts input) (left-all first 0 (reportOf input) (omega (arith, report-fits input h)));
 }
 
-state-sound : (s : State) (r : Named) → StateSound reportRun s → StateSound reportRun (stateOf s r)
-unfolding stateOf
-state-sound s (Is step) h = after-sound reportRun s step h
-state-sound s NoStep h = h
+-- what the inner step answers and leaves is what the line says and leaves
+acted-says : (n : ℕ) (s : State) (names : Named) (a : Answer) (left : State) → Acted (refusedAs names) reportRun s (askedStep names) a left
+    → (saidOf n s names ≡ lineBy (a .refusal) n (askedStep names) (a .value)) × (left ≡ stateOf s names)
+unfolding answerUnder afterUnder stateOf
+acted-says n s (Is step) a left did = (said-step n s (Is step) step a refl (did .answer), did .state)
+acted-says n s NoStep a left did = (said-none n s NoStep refl ∙ rw (did .answer), did .state)
 
--- the same, by other names
-pub passed-same : {input first out out′ : List ℕ} {s s′ : State} {n n′ start start′ place place′ i : ℕ}
-    → out ≡ out′ → s ≡ s′ → n ≡ n′ → start ≡ start′ → place ≡ place′ → Passed input first out′ s′ n′ start′ place′ i → Passed input first out s n start place i
-passed-same a b d e f p = rw (a, b, d, e, f) p
+-- a line, where the inner step was asked for what the line asks for
+module _ (input first out : List ℕ) (s : State) (n start place : ℕ) (p : Passed input first out s n start place) (l : Ahead) (next : Next input start l)
+    (a : Answer) (left : State) (did : Acted (l .refusal) reportRun s (l .step) a left) where
+  says : (saidOf n s (next .names) ≡ lineBy (a .refusal) n (l .step) (a .value)) × (left ≡ stateOf s (next .names))
+  says =
+      let t = acted-says n s (next .names) a left (subst (λ (m : Ahead). Acted (m .refusal) reportRun s (m .step) a left) (next .is) did) in
+      (t .0 ∙ ap (λ (m : Ahead). lineBy (a .refusal) n (m .step) (a .value)) (sym (next .is)), t .1)
 
--- ---- the next byte
-module _ (input first out : List ℕ) (s : State) (n start place i : ℕ) (p : Passed input first out s n start place i) where
-  -- it ends the line
-  module _ (within : i < length input) (ends : getD input i 0 ≡ lineEnd) where
-    line-left : Left out place (saidOf n s (stepOf (part input start i)) ++ reportFrom (suc n) (stateOf s (stepOf (part input start i))) [] (drop (i + 1) input)) (0 + length (reportOf input)) (put first 0 (reportOf input))
-    line-left = left-as
-        (ap (reportFrom n s (part input start i)) (drop-cons input i 0 within) ∙ report-line n s (part input start i) (getD input i 0) (drop (suc i) input) ends
-        ∙ ap (λ (j : ℕ). saidOf n s (stepOf (part input start i)) ++ reportFrom (suc n) (stateOf s (stepOf (part input start i))) [] (drop j input)) (sym (add-one i)))
-        (p .left)
+  line-left : Left out place (lineBy (a .refusal) n (l .step) (a .value) ++ reportFrom (n + 1) left [] (drop (l .next) input)) (0 + length (reportOf input)) (put first 0 (reportOf input))
+  line-left = left-as (next .report n s ∙ rw (says .0, says .1, add-one n)) (p .left)
 
-    pub line-room : place + length (saidOf n s (stepOf (part input start i))) ≤ length out
-    line-room = left-room (saidOf n s (stepOf (part input start i))) _ line-left
+  pub line-room : place + length (lineBy (a .refusal) n (l .step) (a .value)) ≤ length out
+  line-room = left-room (lineBy (a .refusal) n (l .step) (a .value)) _ line-left
 
-    pub line-long : (left : State) (next : ℕ) (after : List ℕ) → Taken n s (part input start i) out place left next after → length after ≡ length out
-    line-long left next after t = ap length (t .says .bytes) ∙ put-length out place (saidOf n s (stepOf (part input start i))) line-room
-
-    pub passed-line : (left : State) (next : ℕ) (after : List ℕ) → Taken n s (part input start i) out place left next after → Passed input first after left (n + 1) (i + 1) next (i + 1)
-    passed-line left next after t = record {
-      begun = omega arith;
-      inside = omega arith;
-      count = omega (arith, p .count);
-      sound = rw (t .state) (state-sound s (stepOf (part input start i)) (p .sound));
-      left = rw (t .state) (left-as
-          (let z : i + 1 - (i + 1) ≡ 0 = omega arith in
-          ap (λ (j : ℕ). reportFrom j (stateOf s (stepOf (part input start i))) [] (drop (i + 1) input)) (sym (add-one n))
-          ∙ ap (λ (j : ℕ). reportFrom (n + 1) (stateOf s (stepOf (part input start i))) (take j (drop (i + 1) input)) (drop (i + 1) input)) (sym z))
-          (left-next (saidOf n s (stepOf (part input start i))) _ line-left (t .says)));
-    }
-
-  -- it is one more of the line
-  longer : i < length input → part input start i ++ (getD input i 0 ∷ []) ≡ part input start (i + 1)
-  longer within =
-      let b = p .begun in
-      let inner : i - start < length (drop start input) = simp length-drop (omega arith) in
-      let here : start + (i - start) ≡ i = omega arith in
-      let more : suc (i - start) ≡ i + 1 - start = omega arith in
-      let g : getD (drop start input) (i - start) 0 ≡ getD input i 0 = getD-drop start input (i - start) 0 ∙ ap (λ (j : ℕ). getD input j 0) here in
-      ap (λ (x : ℕ). part input start i ++ (x ∷ [])) (sym g) ∙ sym (take-suc (drop start input) (i - start) 0 inner) ∙ ap (λ (j : ℕ). take j (drop start input)) more
-
-  pub passed-byte : i < length input → (getD input i 0 ≡ lineEnd → ⊥) → Passed input first out s n start place (i + 1)
-  passed-byte within other = record {
-    begun = omega (arith, p .begun);
-    inside = omega arith;
-    count = omega (arith, p .count);
-    sound = p .sound;
-    left = left-as
-        (ap (reportFrom n s (part input start i)) (drop-cons input i 0 within) ∙ report-byte n s (part input start i) (getD input i 0) (drop (suc i) input) other
-        ∙ ap (λ (l : List ℕ). reportFrom n s l (drop (suc i) input)) (longer within)
-        ∙ ap (λ (j : ℕ). reportFrom n s (part input start (i + 1)) (drop j input)) (sym (add-one i)))
-        (p .left);
+  pub passed-line : (place′ : ℕ) (after : List ℕ) → Laid out place (lineBy (a .refusal) n (l .step) (a .value)) place′ after → Passed input first after left (n + 1) (l .next) place′
+  passed-line place′ after w = record {
+    inside = next .inside;
+    count = omega (arith, p .count, next .behind);
+    sound = rw (says .1) (state-sound s (next .names) (p .sound));
+    left = left-next (lineBy (a .refusal) n (l .step) (a .value)) _ line-left w;
   }
 
-  -- ---- the end of the input
-  module _ (over : length input ≤ i) where
-    none-behind : drop i input ≡ []
-    none-behind = let e : i ≡ length input = omega (arith, p .inside) in rw (e, drop-length input)
-
-    -- an unended piece is refused, and the end follows
-    pub unended : start < i → Left out place (refusedLine n 11 ++ endLines s) (0 + length (reportOf input)) (put first 0 (reportOf input))
-    unended l = left-as
-        (ap (reportFrom n s (part input start i)) none-behind
-        ∙ report-unended n s (part input start i) (let k : length (part input start i) ≡ i - start = length-take-le (i - start) (drop start input) (simp length-drop (omega (arith, p .inside))) in omega arith))
-        (p .left)
-
-    -- or the last line is ended
-    pub ended : i ≤ start → Left out place (endLines s) (0 + length (reportOf input)) (put first 0 (reportOf input))
-    ended l = left-as
-        (let z : i - start ≡ 0 = omega arith in
-        ap (reportFrom n s (part input start i)) none-behind ∙ ap (λ (j : ℕ). reportFrom n s (take j (drop start input)) []) z ∙ report-done n s)
-        (p .left)
+-- ---- the end of the input: only the end of the report is left
+pub passed-end : (input first out : List ℕ) (s : State) (n start place : ℕ) → Passed input first out s n start place → length input ≤ start
+    → Left out place (endLines s) (0 + length (reportOf input)) (put first 0 (reportOf input))
+passed-end input first out s n start place p over =
+    let at : start ≡ length input = omega (arith, p .inside) in
+    left-as (rw (at, drop-length input) (report-done n s)) (p .left)

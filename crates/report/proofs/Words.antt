@@ -16,10 +16,10 @@ use Rattle.rules.specs.declared.Named.{Named}
 use Rattle.rules.specs.declared.Named.the-variants.{Is, NoStep}
 use Rattle.rules.specs.Lengths.{listed}
 use Rattle.rules.specs.Operations.{answer}
-use Rattle.rules.specs.Runs.{State, refusalOf, valueOf, answerOf, after}
+use Rattle.rules.specs.Runs.{State, refusalOf, valueOf, answerOf}
 use Rattle.rules.specs.Text.{ascii}
 use Rattle.rules.specs.Number.{digits}
-use Rattle.rules.specs.Reports.{reportRun, lineEnd, refusedLine, queryLine, countLine, ledgerLines, acceptedLine, lineBy, saidOf, stateOf}
+use Rattle.rules.specs.Reports.{reportRun, lineEnd, refusedLine, queryLine, countLine, ledgerLines, acceptedLine, lineBy, saidOf}
 
 -- a name and a number
 abbrev pub pair : List ℕ → ℕ → List ℕ
@@ -88,11 +88,3 @@ said-none n s r e = rw e
 pub said-step : (n : ℕ) (s : State) (r : Named) (step : Step) (a : Answer) → r ≡ Is step → a ≡ answerOf reportRun s step → saidOf n s r ≡ lineBy (a .refusal) n step (a .value)
 unfolding saidOf
 said-step n s r step a e h = rw (e, h) (sym (line-answer (refusalOf reportRun s step) (valueOf reportRun s step) n step))
-
-pub state-none : (s : State) (r : Named) → r ≡ NoStep → s ≡ stateOf s r
-unfolding stateOf
-state-none s r e = rw e
-
-pub state-step : (s : State) (r : Named) (step : Step) → r ≡ Is step → after reportRun s step ≡ stateOf s r
-unfolding stateOf
-state-step s r step e = rw e

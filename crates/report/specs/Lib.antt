@@ -1,4 +1,4 @@
+pub mod Ahead
 pub mod Laid
-pub mod Lines
 pub mod Printing
 pub mod Tables

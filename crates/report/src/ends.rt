@@ -1,7 +1,6 @@
 // What stands at the end of every report: the ledger and the sites.
 use crate::pieces::write_count;
 use crate::pieces::write_pair;
-use kept::Kept;
 use parcels::is_free;
 use rules::Ledger;
 use rules::Parcel;
@@ -10,9 +9,9 @@ ghost use Prim.Native.Nat.{_+_, _≤_};
 ghost use mathlib.Core.Path.{_≡_};
 ghost use lib.ListN.{length};
 ghost use Rattle.rules.specs.Parcels.{waiting};
+ghost use Rattle.rules.specs.Runs.{lent};
 ghost use Rattle.rules.specs.RunLaws.{StateSound};
 ghost use Rattle.rules.specs.Reports.{reportRun, ledgerLines, siteLine, siteLines, endLines};
-ghost use Rattle.kept.specs.Kept.{keptState};
 ghost use Rattle.report.specs.Laid.{Laid};
 ghost use Rattle.report.specs.Tables.{ThreeTables};
 
@@ -61,14 +60,16 @@ fn write_sites(out: &mut [u8], place: usize, words: &[u64]) -> usize
     next
 }
 
-pub(crate) fn write_ending(out: &mut [u8], place: usize, kept: Kept) -> usize
-    requires { ⌜ StateSound reportRun (keptState kept) ⌝ }
-    requires { ⌜ place + length (endLines (keptState kept)) ≤ length (now out) ⌝ }
-    ensures { λ r. ⌜ Laid (now (out .entry)) place (endLines (keptState kept)) r (now (out .exit)) ⌝ }
+pub(crate) fn write_ending(
+    out: &mut [u8],
+    place: usize,
+    words: [u64; 48],
+    slots: [Parcel; 8],
+    ledger: Ledger,
+) -> usize
+    requires { ⌜ StateSound reportRun (lent words slots ledger) × (place + length (endLines (lent words slots ledger)) ≤ length (now out)) ⌝ }
+    ensures { λ r. ⌜ Laid (now (out .entry)) place (endLines (lent words slots ledger)) r (now (out .exit)) ⌝ }
 {
-    let slots = kept.slots;
-    let ledger = kept.ledger;
-    let words = kept.words;
     let next = write_ledger(out, place, ledger, count_waiting(slots));
     write_sites(out, next, &words)
 }

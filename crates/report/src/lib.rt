@@ -1,4 +1,5 @@
 // The text of a report from the text of steps. What a report is, is said in `specs/Reports.antt` of the crate `rules`.
+mod ahead;
 mod ends;
 mod pass;
 mod pieces;

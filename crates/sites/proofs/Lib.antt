@@ -9,3 +9,4 @@ pub mod Lending
 pub mod Outcomes
 pub mod Beginning
 pub mod OnAct
+pub mod Relend

@@ -22,9 +22,9 @@ use types.Run.{look, init, forget, stop, fld, from, load, lit, addr, and-then, n
 use types.Part.{agg, whole, sub, look-in}
 use sound.WpLaws.{FmC, fmOf, WpFn-mono}
 use denote.RattleType.{owns}
-use denote.Laws.{Is, Typed}
-use denote.Array.{Array, array-typed}
-use denote.Plain.{uint-makes, uint-lawful}
+use denote.Laws.{Is}
+use denote.Array.{Array}
+use denote.Plain.{uint-makes}
 use denote.Builtin.{u64}
 use denote.Slice.{Room}
 use denote.Steps.{nothing, owned}
@@ -47,6 +47,7 @@ use Rattle.kept.specs.declared.Moved.{Moved}
 use Rattle.kept.specs.Kept.{keptState}
 use Rattle.kept.proofs.Elements.{array-out, array-in}
 use Rattle.kept.proofs.Locals.{val, typed, holds, lays, lifts, lays-array, lifts-array}
+use Rattle.kept.proofs.LentRun.{room48, room8, words-typed, slots-typed}
 use Rattle.kept.proofs.OnStep.{OneStep, sizes-val, asked-val, on-step}
 use Rattle.rules.proofs.Ledger as T
 use Rattle.rules.proofs.Ledger.Laws as T′
@@ -86,13 +87,6 @@ slots-val k = K′.the-laws .1 .0 .val (K.the-type .to k .1 .0)
 abbrev ledger-val : Ledger → Val
 ledger-val = val T.the-type T′.the-laws
 
--- 48 words and 8 slots fit a slice
-room48 : Room u64 48
-room48 = (lit< tt, lit< tt)
-
-room8 : Room P.the-row 8
-room8 = (lit< tt, lit< tt)
-
 -- the kept run that the three parts make, and its machine value where the arrays' are v₀ and v₁
 abbrev made : List ℕ → List Parcel → Ledger → Kept
 made ws ss h = record { words = ws; slots = ss; ledger = h }
@@ -110,13 +104,6 @@ moved-val u w = vstruct (ofList (u ∷ w ∷ []))
 
 is-moved : (u w : Val) (k : Kept) (r : Answer) → Is K.the-row k (u ∷ []) → Is N.the-row r (w ∷ []) → Is O.the-row (record { kept = k; answer = r }) (moved-val u w ∷ [])
 is-moved u w k r is-k is-r = ((u ∷ [], (w ∷ [], tt)), (refl, (is-k, (is-r, tt))))
-
-module _ {M : Type 1} (𝓤 : URA M) (H : Heap 𝓤) (A : Atoms 𝓤) (W : Given 𝓤 H A) where
-  words-typed : (ws : List ℕ) (v : Val) → Is (Array u64 48) ws (v ∷ []) → Typed (Array u64 48 .mir) (v ∷ [])
-  words-typed ws v is = array-typed u64 (uint-lawful 𝓤 H A W w64 .typed) 48 ws (v ∷ []) is
-
-  slots-typed : (ss : List Parcel) (v : Val) → Is (Array P.the-row 8) ss (v ∷ []) → Typed (Array P.the-row 8 .mir) (v ∷ [])
-  slots-typed ss v is = array-typed P.the-row (LL.lawful P.the-type P′.the-laws 𝓤 H A W .typed) 8 ss (v ∷ []) is
 
 module _ {M : Type 1} (𝓤 : URA M) (H : Heap 𝓤) (A : Atoms 𝓤) (W : Given 𝓤 H A) (at-mem : Memory → SProp 𝓤) (run : Routine → Fun 𝓤) (given : Kept) (sizes : Run) (asked : Step)
     (is-given : Is K.the-row given (kept-val given ∷ [])) (is-sizes : Is U.the-row sizes (sizes-val sizes ∷ [])) (is-asked : Is Q.the-row asked (asked-val asked ∷ [])) where

@@ -1,7 +1,7 @@
 -- `report::ends::write_ending`: the ledger, and the sites behind it. Assumes nothing.
 use denote.Ref.{now}
+use Rattle.rules.specs.Runs.{lent}
 use Rattle.rules.specs.Reports.{ledgerLines, siteLines, endLines}
-use Rattle.kept.specs.Kept.{keptState}
 use Rattle.report.proofs.Left.{left-all, left-room, left-next, left-fits, left-as, laid-last}
 use Rattle.report.proofs.Counted.{three-tables, end-pieces}
 use borrow.Author.Needs.{needs}
@@ -12,18 +12,18 @@ count-waiting-requires : tie.Need-count-waiting-requires
 count-waiting-requires c κs = search needs
 
 write-ledger-requires : tie.Need-write-ledger-requires
-write-ledger-requires c κs = let s = c .before .before .before .before .before .before .args in
-    left-room (ledgerLines (s .kept .ledger) (c .count-waiting .result)) (siteLines 3 0 (s .kept .words))
-    (left-as (end-pieces (keptState (s .kept)) (c .count-waiting .result) (c .count-waiting .ensures)) (left-all (now (s .out)) (s .place) (endLines (keptState (s .kept))) (c .before .before .before .before .before .before .pre .1)))
+write-ledger-requires c κs = let s = c .before .before .before .args in
+    left-room (ledgerLines (s .ledger) (c .count-waiting .result)) (siteLines 3 0 (s .t3))
+    (left-as (end-pieces (lent (s .t3) (s .slots) (s .ledger)) (c .count-waiting .result) (c .count-waiting .ensures)) (left-all (now (s .out)) (s .place) (endLines (lent (s .t3) (s .slots) (s .ledger))) (c .before .before .before .pre .1)))
 
 slice-aggregate-write-sites : tie.Need-slice-aggregate-write-sites
 slice-aggregate-write-sites c = search needs
 
 write-sites-requires : tie.Need-write-sites-requires
-write-sites-requires c κs = let s = c .before .before .before .before .before .before .before .before .before .before .before .args in (
-  three-tables (keptState (s .kept)) (c .before .before .before .before .before .before .before .before .before .before .before .pre .0),
-  left-fits (left-next (ledgerLines (s .kept .ledger) (c .before .before .before .before .before .count-waiting .result)) (siteLines 3 0 (s .kept .words))
-      (left-as (end-pieces (keptState (s .kept)) (c .before .before .before .before .before .count-waiting .result) (c .before .before .before .before .before .count-waiting .ensures)) (left-all (now (s .out)) (s .place) (endLines (keptState (s .kept))) (c .before .before .before .before .before .before .before .before .before .before .before .pre .1)))
+write-sites-requires c κs = let s = c .before .before .before .before .before .before .before .before .args in (
+  three-tables (lent (s .t3) (s .slots) (s .ledger)) (c .before .before .before .before .before .before .before .before .pre .0),
+  left-fits (left-next (ledgerLines (s .ledger) (c .before .before .before .before .before .count-waiting .result)) (siteLines 3 0 (s .t3))
+      (left-as (end-pieces (lent (s .t3) (s .slots) (s .ledger)) (c .before .before .before .before .before .count-waiting .result) (c .before .before .before .before .before .count-waiting .ensures)) (left-all (now (s .out)) (s .place) (endLines (lent (s .t3) (s .slots) (s .ledger))) (c .before .before .before .before .before .before .before .before .pre .1)))
       (c .before .before .before .before .write-ledger .ensures)),
 )
 
@@ -31,9 +31,9 @@ same-length : tie.Need-same-length
 same-length c = search needs
 
 returns : tie.Need-returns
-returns c = let s = c .before .before .before .before .before .before .before .before .before .before .before .before .before .before .args in
-    laid-last (left-next (ledgerLines (s .kept .ledger) (c .before .before .before .before .before .before .before .before .count-waiting .result)) (siteLines 3 0 (s .kept .words))
-    (left-as (end-pieces (keptState (s .kept)) (c .before .before .before .before .before .before .before .before .count-waiting .result) (c .before .before .before .before .before .before .before .before .count-waiting .ensures)) (left-all (now (s .out)) (s .place) (endLines (keptState (s .kept))) (c .before .before .before .before .before .before .before .before .before .before .before .before .before .before .pre .1)))
+returns c = let s = c .before .before .before .before .before .before .before .before .before .before .before .args in
+    laid-last (left-next (ledgerLines (s .ledger) (c .before .before .before .before .before .before .before .before .count-waiting .result)) (siteLines 3 0 (s .t3))
+    (left-as (end-pieces (lent (s .t3) (s .slots) (s .ledger)) (c .before .before .before .before .before .before .before .before .count-waiting .result) (c .before .before .before .before .before .before .before .before .count-waiting .ensures)) (left-all (now (s .out)) (s .place) (endLines (lent (s .t3) (s .slots) (s .ledger))) (c .before .before .before .before .before .before .before .before .before .before .before .pre .1)))
     (c .before .before .before .before .before .before .before .write-ledger .ensures)) (c .before .before .write-sites .ensures)
 
 pub write-ending-spec : {M : Type 1} → statement M
