@@ -29,5 +29,9 @@ fn low_taken(low: usize, step: Step, value: u64) -> usize
 pub fn low_after(low: usize, step: Step, answer: Answer) -> usize
     ensures { λ r. ⌜ r ≡ lowAfter low step answer ⌝ }
 {
-    if answer.refusal == 0 { low_taken(low, step, answer.value) } else { low }
+    if answer.refusal == 0 {
+        low_taken(low, step, answer.value)
+    } else {
+        low
+    }
 }

@@ -13,7 +13,8 @@ use lib.Pow.{shl-exact}
 use mir.Val.{boolByte}
 use Rattle.rules.specs.Table.{idAt, lengthAt}
 use Rattle.rules.specs.Places.{Laid}
-use Rattle.table.proofs.Search.{Span, span-start, span-up, span-stay}
+use Rattle.table.specs.Loops.{Span}
+use Rattle.table.proofs.Search.{span-start, span-up, span-stay}
 
 pub one-shifted : (k : ℕ) → k < 64 → 1 * 2 ^ k % 2 ^ 64 ≡ 2 ^ k
 one-shifted k h = shl-exact {a = 1} 1 k 64 (omega arith) (omega arith) ∙ (let e : 1 * 2 ^ k ≡ 2 ^ k = omega arith in e)
@@ -34,7 +35,7 @@ pub bit-le : (b : Bool) (p : ℕ) → cond b p 0 ≤ p
 bit-le true p = omega arith
 bit-le false p = omega arith
 
-pub last : (k : ℕ) → k ≤ 0 → 2 ^ k ≤ 1
+pub last : (k : ℕ) → k ≤ 0 → 2 ^ k ≡ 1
 last zero h = omega arith
 last (suc k) h = absurd (omega arith)
 

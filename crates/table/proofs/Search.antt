@@ -8,21 +8,16 @@ use mathlib.Core.Path.{_≡_, refl, sym, ap, _∙_}
 use mathlib.Core.Logic.{_⊎_, ⊎-elim, inl, inr}
 use mathlib.Core.List.{List}
 use lib.ListN.{length, getD}
-use lib.Dec.{leb, eqb}
-use borrow.Author.Tests.{le-leb, eq-eqb, ne-eqb, leb-true, leb-false, eqb-true, eqb-false, not-true}
+use lib.Dec.{leb, ltb, eqb}
+use mir.Val.{boolByte}
+use borrow.Author.Tests.{le-leb, eq-eqb, ne-eqb, leb-true, leb-false, ltb-true, ltb-false, eqb-true, eqb-false, not-true}
 use Rattle.rules.specs.declared.Found.{Found}
 use Rattle.rules.specs.declared.Found.the-variants.{At, Absent}
 use Rattle.rules.specs.Order.{Side, Side.below, Side.same, Side.above, side}
-use Rattle.rules.specs.Table.{idAt, lengthAt, foundOf}
-use Rattle.rules.specs.Places.{Laid, used-at, found-at, found-none}
+use Rattle.rules.specs.Table.{idAt, lengthAt, rank, foundOf}
+use Rattle.rules.specs.Places.{Laid, rank-is, used-at, found-at, found-none}
 use Rattle.rules.specs.View.{parts}
-
-pub record Span (t : List ℕ) (k x base size : ℕ) : Type 0 where
-  pub some : 1 ≤ size
-  pub room : 2 * (base + size) ≤ length t
-  pub start : base ≤ k
-  pub below : (j : ℕ) → j < base → idAt t j < x
-  pub above : (j : ℕ) → base + size ≤ j → j < k → x < idAt t j
+use Rattle.table.specs.Loops.{Span}
 
 -- a test of a length and a test of an id, failed together
 failed : (l : ℕ) (b : Bool) → not (eqb l 0) && b ≡ false → (l ≡ 0 → ⊥) → b ≡ false
@@ -65,7 +60,8 @@ module _ {most : ℕ} {t : List ℕ} {k : ℕ} (w : Laid most t k) (x : ℕ) whe
               (eq-or-lt-of-le (omega arith));
         }
 
-  module _ (base size : ℕ) (s : Span t k x base size) (one : size ≤ 1) where
+  -- at its end halving has one place left
+  module _ (base : ℕ) (s : Span t k x base 1) where
     pub span-found : not (eqb (lengthAt t base) 0) && eqb (idAt t base) x ≡ true → At base ≡ foundOf t x
     span-found h =
         let p = parts _ _ h in
@@ -78,3 +74,16 @@ module _ {most : ℕ} {t : List ℕ} {k : ℕ} (w : Laid most t k) (x : ℕ) whe
         at i (below p) q e = omega (arith, s .below i p, e)
         at i (above p) q e = omega (arith, s .above i (omega arith) q, e)
         at i (same p) q e = eqb-false _ _ (failed (lengthAt t base) _ h (λ z. omega (arith, z, w .low base (omega arith)))) (rw p at e)
+
+    pub span-rank : (b : Bool) → b ≡ (not (eqb (lengthAt t base) 0) && ltb (idAt t base) x) → base + boolByte b ≡ rank t x
+    span-rank true h =
+        let p = parts _ _ (sym h) in
+        let at : base < k = used-at w base (eqb-false _ _ (not-true _ (p .0))) in
+        let id : idAt t base < x = ltb-true _ _ (p .1) in
+        sym (rank-is w x (base + 1) (omega arith) (λ j q. ⊎-elim (λ e. rw e id) (λ l. s .below j l) (eq-or-lt-of-le (last j q))) (λ q. omega (arith, s .above (base + 1) (omega arith) q)))
+      where
+        last : (j : ℕ) → j < base + 1 → j ≤ base
+        last j q = omega arith
+    span-rank false h =
+        let z : base + 0 ≡ base = omega arith in
+        rw z (sym (rank-is w x base (s .start) (s .below) (λ q. ltb-false _ _ (failed (lengthAt t base) _ (sym h) (λ z. omega (arith, z, w .low base q))))))

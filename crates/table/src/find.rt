@@ -5,7 +5,8 @@ ghost use mathlib.Core.Bool.{not, _&&_};
 ghost use Prim.Native.Nat.{_+_, _*_, _^_, _≤_, _<_};
 ghost use lib.Dec.{leb, eqb};
 ghost use lib.ListN.{length};
-ghost use Rattle.rules.specs.Table.{SoundTable, foundOf, lengthOf, idAt, lengthAt};
+ghost use Rattle.rules.specs.Table.{SoundTable, held, rank, foundOf, lengthOf, idAt, lengthAt};
+ghost use Rattle.table.specs.Loops.{Span};
 
 // The exponent of a power of two that is within the number and at least half of it.
 fn halvings(n: usize) -> usize
@@ -29,17 +30,15 @@ fn reaches(table: &[u64], i: usize, id: u64) -> bool
     (table[2 * i + 1] != 0) & (table[2 * i] <= id)
 }
 
-// The place where the id stands, or its absence: by halving, at most 12 places looked at in a table of 2,048.
+// Where halving ends: each id before the place is below the one sought, each id after it above. At most 12 places are looked at in a table of 2,048.
 // The first place leaves a power of two to look through; from there on the test's bit, shifted, is what the place moves by.
 // An `if` in the loop would become a jump that is guessed wrongly half of the time.
-pub fn lookup(table: &[u64], id: u64) -> Found
+fn nearest(table: &[u64], id: u64) -> usize
     requires { ⌜ SoundTable (now table) ⌝ }
-    ensures { λ r. ⌜ r ≡ foundOf (now (table .entry)) id ⌝ }
+    requires { ⌜ 2 ≤ length (now table) ⌝ }
+    ensures { λ r. ⌜ Span (now (table .entry)) (held (now (table .entry))) id r 1 ⌝ }
 {
     let n = table.len() / 2;
-    if n == 0 {
-        return Found::Absent;
-    }
     let mut k = halvings(n);
     let mid = n - (1 << k);
     let mut base = 0;
@@ -51,11 +50,34 @@ pub fn lookup(table: &[u64], id: u64) -> Found
         let up = reaches(table, base + (1 << k), id);
         base = base + ((up as usize) << k);
     }
-    if (table[2 * base + 1] != 0) & (table[2 * base] == id) {
-        Found::At(base)
+    base
+}
+
+// The place where the id stands, or its absence.
+pub fn lookup(table: &[u64], id: u64) -> Found
+    requires { ⌜ SoundTable (now table) ⌝ }
+    ensures { λ r. ⌜ r ≡ foundOf (now (table .entry)) id ⌝ }
+{
+    if table.len() < 2 {
+        return Found::Absent;
+    }
+    let near = nearest(table, id);
+    if (table[2 * near + 1] != 0) & (table[2 * near] == id) {
+        Found::At(near)
     } else {
         Found::Absent
     }
+}
+
+// The place where the id stands or would stand: the number of entries with smaller ids.
+pub(crate) fn rank(table: &[u64], id: u64) -> usize
+    requires { ⌜ SoundTable (now table) ⌝ }
+    requires { ⌜ 2 ≤ length (now table) ⌝ }
+    ensures { λ r. ⌜ r ≡ rank (now (table .entry)) id ⌝ }
+{
+    let near = nearest(table, id);
+    let smaller = (table[2 * near + 1] != 0) & (table[2 * near] < id);
+    near + (smaller as usize)
 }
 
 // The length that the table has for an id, 0 where it has no entry.

@@ -1,6 +1,8 @@
 // One id's length raised: by an add, by a remove, or by an update that arrives.
 use crate::find::lookup;
+use crate::find::rank;
 use crate::judge::held;
+use crate::places::move_on;
 use crate::places::write;
 use lengths::after_add;
 use lengths::after_remove;
@@ -14,7 +16,7 @@ ghost use Rattle.rules.specs.Lengths.{M, join};
 ghost use Rattle.rules.specs.Table.{SoundTable, held, lengthOf, heldWith, raised};
 ghost use Rattle.rules.specs.Operations.{crowded, raiseAnswer, raiseTable, addAnswer, addTable, absorbAnswer, absorbTable, removeAnswer, removeTable};
 
-// An id without an entry is given one: the entries with larger ids move on by one place, the last one first.
+// An id without an entry is given one: the entries with larger ids move on by one place.
 fn insert(table: &mut [u64], used: usize, id: u64, length: u64)
     requires { ⌜ SoundTable (now table) ⌝ }
     requires { ⌜ used ≡ held (now table) ⌝ }
@@ -22,18 +24,10 @@ fn insert(table: &mut [u64], used: usize, id: u64, length: u64)
     requires { ⌜ (lengthOf (now table) id ≡ 0) × (1 ≤ length) ⌝ }
     ensures { λ _. ⌜ now (table .exit) ≡ raised (now (table .entry)) id length ⌝ }
 {
-    let mut i = used;
-    while 0 < i {
-        let p = i - 1;
-        let before = table[2 * p];
-        if before < id {
-            break;
-        }
-        let moved = table[2 * p + 1];
-        write(table, i, before, moved);
-        i = p;
-    }
-    write(table, i, id, length);
+    let place = rank(table, id);
+    let from = 2 * place;
+    move_on(&mut table[from..], 2 * used - from);
+    write(table, place, id, length);
 }
 
 // The same where there is room, and refused where every place is used.

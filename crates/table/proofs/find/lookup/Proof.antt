@@ -1,166 +1,65 @@
--- `table::find::lookup`: `Span` is what halving keeps, its size a power of two.
+-- `table::find::lookup`: the id stands at the place where halving ends, or nowhere (`Span` of size 1).
 -- Assumes nothing.
-use Prim.Native.Nat.{_-_, _^_, _<_}
-use mathlib.Core.Path.{_≡_, sym, _∙_}
-use mathlib.Core.Logic.{⊎-elim}
+use mathlib.Core.Path.{sym}
 use Rattle.rules.specs.Lengths.{M}
-use Rattle.rules.specs.Table.{held}
 use Rattle.rules.specs.Places.{Laid, laid-of, found-none}
-use Rattle.table.proofs.Search.{Span, span-found, span-none}
-use Rattle.table.proofs.Powers.{one-shifted, bit-shifted, positive, bit-le, last, inside, first-up, first-stay, next}
+use Rattle.table.proofs.Search.{span-found, span-none}
 use native.Mathlib.Omega.{arith}
 use borrow.Author.Needs.{needs}
 use Rattle.table.proofs.find.lookup.Statement.{statement}
 use Rattle.table.proofs.find.lookup.Tie as tie
 
-abbrev Inv-loop : tie.InvT-loop
-Inv-loop table id n k₀ mid base₀ k base = (k < 64) × Span table (held table) id base (2 ^ k)
-
-abbrev μ-loop : tie.MeasureT-loop
-μ-loop table id n k₀ mid base₀ k base = k
-
-returns : tie.Need-returns Inv-loop μ-loop
+returns : tie.Need-returns
 returns c =
     let w = laid-of M _ (c .before .before .pre) in
     sym (found-none w _ (λ i p q. omega (arith, w .room, c .if1 .taken)))
 
-halvings-requires : tie.Need-halvings-requires Inv-loop μ-loop
-halvings-requires c κs = omega (arith, c .if1 .left)
+nearest-requires : tie.Need-nearest-requires
+nearest-requires c κs = search needs
 
-shl-mid : tie.Need-shl-mid Inv-loop μ-loop
-shl-mid c = c .halvings .ensures .0
+mul-if2 : tie.Need-mul-if2
+mul-if2 c = search needs
 
-sub-mid : tie.Need-sub-mid Inv-loop μ-loop
-sub-mid c = rw (one-shifted _ (c .halvings .ensures .0)) (c .halvings .ensures .1 .0)
+add-if2 : tie.Need-add-if2
+add-if2 c = search needs
 
-reaches-requires : tie.Need-reaches-requires Inv-loop μ-loop
-reaches-requires c κs =
-    let h = c .halvings .ensures in
-    let p = positive (c .halvings .result) in
-    rw (one-shifted _ (h .0)) (omega (arith, h .1 .0, p))
+mul-if2-2 : tie.Need-mul-if2-2
+mul-if2-2 c = search needs
 
-loop-holds : tie.Need-loop-holds Inv-loop μ-loop
-loop-holds c =
-    let h = c .before .before .halvings .ensures in
-    let w = laid-of M _ (c .before .before .before .before .before .pre) in
-    let r = rw (one-shifted _ (h .0)) at (c .before .reaches .ensures) in (
-      h .0,
-      ⊎-elim
-          (λ v. rw (v .1, one-shifted _ (h .0)) (first-up w _ _ _ (omega arith) (omega (arith, w .room)) (h .1 .0) (h .1 .1) (sym r ∙ v .0 .taken)))
-          (λ v. rw (v .1) (first-stay w _ _ _ (omega arith) (omega (arith, w .room)) (h .1 .0) (h .1 .1) (sym r ∙ v .0 .left)))
-          (c .if2 .came),
-    )
+shared-slice-read-if2 : tie.Need-shared-slice-read-if2
+shared-slice-read-if2 c = search needs
 
-sub-k : tie.Need-sub-k Inv-loop μ-loop
-sub-k c = search needs
+mul-if2-3 : tie.Need-mul-if2-3
+mul-if2-3 c = search needs
 
-shl-reaches : tie.Need-shl-reaches Inv-loop μ-loop
-shl-reaches c = search needs
+mul-if2-4 : tie.Need-mul-if2-4
+mul-if2-4 c = search needs
 
-add-reaches : tie.Need-add-reaches Inv-loop μ-loop
-add-reaches c =
-    let l = c .before .before in
-    let w = laid-of M _ (l .before .before .before .before .before .before .pre) in
-    let g : l .loop .k - 1 < 64 = omega (arith, l .loop .inv .0) in
-    let i = inside w _ _ _ (c .before .loop-test .taken) (l .loop .inv .1) in
-    rw (one-shifted _ g) (record { fits = search needs })
+shared-slice-read-if2-2 : tie.Need-shared-slice-read-if2-2
+shared-slice-read-if2-2 c = search needs
 
-reaches-requires-2 : tie.Need-reaches-requires-2 Inv-loop μ-loop
-reaches-requires-2 c κs =
-    let l = c .before .before in
-    let w = laid-of M _ (l .before .before .before .before .before .before .pre) in
-    let g : l .loop .k - 1 < 64 = omega (arith, l .loop .inv .0) in
-    rw (one-shifted _ g) (inside w _ _ _ (c .before .loop-test .taken) (l .loop .inv .1))
-
-cast-base : tie.Need-cast-base Inv-loop μ-loop
-cast-base c = search needs
-
-shl-base : tie.Need-shl-base Inv-loop μ-loop
-shl-base c = search needs
-
-add-base : tie.Need-add-base Inv-loop μ-loop
-add-base c =
-    let l = c .before .before .before in
-    let w = laid-of M _ (l .before .before .before .before .before .before .pre) in
-    let g : l .loop .k - 1 < 64 = omega (arith, l .loop .inv .0) in
-    let i = inside w _ _ _ (c .before .before .loop-test .taken) (l .loop .inv .1) in
-    let b = bit-le (c .reaches2 .result) (2 ^ (l .loop .k - 1)) in
-    rw (bit-shifted (c .reaches2 .result) _ g) (record { fits = search needs })
-
-loop-less : tie.Need-loop-less Inv-loop μ-loop
-loop-less c = search needs
-
-loop-again : tie.Need-loop-again Inv-loop μ-loop
-loop-again c =
-    let l = c .before .before .before in
-    let w = laid-of M _ (l .before .before .before .before .before .before .pre) in
-    let i = l .loop .inv in
-    let g : l .loop .k - 1 < 64 = omega (arith, i .0) in
-    let r = rw (one-shifted _ g) at (c .reaches2 .ensures) in
-    (g, rw (bit-shifted (c .reaches2 .result) _ g) (next w _ _ _ (c .before .before .loop-test .taken) (i .1) _ r))
-
-mul-if3 : tie.Need-mul-if3 Inv-loop μ-loop
-mul-if3 c = search needs
-
-add-if3 : tie.Need-add-if3 Inv-loop μ-loop
-add-if3 c = search needs
-
-mul-if3-2 : tie.Need-mul-if3-2 Inv-loop μ-loop
-mul-if3-2 c = search needs
-
-shared-slice-read-if3 : tie.Need-shared-slice-read-if3 Inv-loop μ-loop
-shared-slice-read-if3 c = search needs
-
-mul-if3-3 : tie.Need-mul-if3-3 Inv-loop μ-loop
-mul-if3-3 c = search needs
-
-mul-if3-4 : tie.Need-mul-if3-4 Inv-loop μ-loop
-mul-if3-4 c = search needs
-
-shared-slice-read-if3-2 : tie.Need-shared-slice-read-if3-2 Inv-loop μ-loop
-shared-slice-read-if3-2 c = search needs
-
-returns-2 : tie.Need-returns-2 Inv-loop μ-loop
+returns-2 : tie.Need-returns-2
 returns-2 c =
-    let l = c .before .before .before .before .before in
-    let w = laid-of M _ (l .before .before .before .before .before .before .pre) in
-    let e = last (l .loop .k) (c .before .before .before .before .loop-test .left) in
-    span-found w _ _ _ (l .loop .inv .1) e (c .if3 .taken)
+    let a = c .before .before .before in
+    span-found (laid-of M _ (a .before .before .before .pre)) _ _ (a .nearest .ensures) (c .if2 .taken)
 
-returns-3 : tie.Need-returns-3 Inv-loop μ-loop
+returns-3 : tie.Need-returns-3
 returns-3 c =
-    let l = c .before .before .before .before .before in
-    let w = laid-of M _ (l .before .before .before .before .before .before .pre) in
-    let e = last (l .loop .k) (c .before .before .before .before .loop-test .left) in
-    span-none w _ _ _ (l .loop .inv .1) e (c .if3 .left)
+    let a = c .before .before .before in
+    span-none (laid-of M _ (a .before .before .before .pre)) _ _ (a .nearest .ensures) (c .if2 .left)
 
 pub lookup-spec : {M : Type 1} → statement M
 lookup-spec =
     tie.close
     (tie.spec
-    Inv-loop
-    μ-loop
     returns
-    halvings-requires
-    shl-mid
-    sub-mid
-    reaches-requires
-    loop-holds
-    sub-k
-    shl-reaches
-    add-reaches
-    reaches-requires-2
-    cast-base
-    shl-base
-    add-base
-    loop-less
-    loop-again
-    mul-if3
-    add-if3
-    mul-if3-2
-    shared-slice-read-if3
-    mul-if3-3
-    mul-if3-4
-    shared-slice-read-if3-2
+    nearest-requires
+    mul-if2
+    add-if2
+    mul-if2-2
+    shared-slice-read-if2
+    mul-if2-3
+    mul-if2-4
+    shared-slice-read-if2-2
     returns-2
     returns-3)

@@ -1,112 +1,101 @@
--- `table::raise::insert`: the loop fills the table with the new entry from the back (`Shift`).
+-- `table::raise::insert`: the words from the id's place on are moved, and its entry written there (`inserted`).
 -- Assumes nothing.
-use Prim.Native.Nat.{ℕ, _+_, _*_, _-_, _≤_, _<_, suc}
-use mathlib.Core.Path.{_≡_, sym, _∙_}
-use mathlib.Core.Logic.{_⊎_, ⊎-elim, inl, inr}
+use Prim.Native.Nat.{ℕ, _+_, _*_, _-_, _≤_}
+use mathlib.Core.Path.{_≡_, _∙_}
+use lib.ListN.{length, length-take, length-drop}
+use borrow.Rule.Slice.PartMut.{putMid}
 use denote.Ref.{now}
 use Rattle.rules.specs.Lengths.{M}
-use Rattle.rules.specs.Table.{held, raised}
+use Rattle.rules.specs.Table.{held}
 use Rattle.rules.specs.Law.{sound-wider}
-use Rattle.rules.specs.Places.{Laid, laid-of}
-use Rattle.table.proofs.Shift.{Shift, shift-start, shift-more, shift-end}
+use Rattle.rules.specs.Places.{Laid, laid-of, rank-most}
+use Rattle.table.specs.Loops.{Moved}
+use Rattle.table.proofs.Shift.{part-moved, inserted}
 use native.Mathlib.Omega.{arith}
 use borrow.Author.Needs.{needs}
 use Rattle.table.proofs.raise.insert.Statement.{statement}
 use Rattle.table.proofs.raise.insert.Tie as tie
 
-abbrev Inv-loop : tie.InvT-loop
-Inv-loop table₀ used id length i₀ table i = Shift table₀ (raised table₀ id length) (held table₀) id table i
-
-abbrev μ-loop : tie.MeasureT-loop
-μ-loop table₀ used id length i₀ table i = i
-
 -- any word is a length that the new entry can have, so the table is read at the largest word
 abbrev widest : ℕ
 widest = 18446744073709551615
 
-w : (c : tie.Start Inv-loop μ-loop) → Laid widest (now (c .args .table)) (held (now (c .args .table)))
-w c = laid-of widest _ (sound-wider M widest _ (omega arith) (c .pre .0))
+w : (a : tie.Start) → Laid widest (now (a .args .table)) (held (now (a .args .table)))
+w a = laid-of widest _ (sound-wider M widest _ (omega arith) (a .pre .0))
 
-fits : (c : tie.Start Inv-loop μ-loop) → c .args .length ≤ widest
-fits c = omega arith
+abbrev start : tie.After-rank → tie.Start
+start c = c .before .before .before
 
-room : (c : tie.Start Inv-loop μ-loop) → 2 * held (now (c .args .table)) + 2 ≤ lib.ListN.length (now (c .args .table))
-room c = omega (arith, c .pre .1 .0, c .pre .1 .1 .0)
+within : (c : tie.After-rank) → c .rank .result ≤ start c .args .used
+within c = omega (arith, c .rank .ensures, rank-most (w (start c)) (start c .args .id), start c .pre .1 .0)
 
-loop-holds : tie.Need-loop-holds Inv-loop μ-loop
-loop-holds c = let a = c .before in rw (a .pre .1 .0) (shift-start (w a) _ _ (a .pre .1 .1 .1 .1) (fits a) (room a) (a .pre .1 .1 .1 .0))
+-- the table with its part put back
+abbrev origin : tie.After-move-on → tie.After-rank
+origin c = c .before .before
 
-sub-p : tie.Need-sub-p Inv-loop μ-loop
-sub-p c = search needs
+abbrev from : tie.After-move-on → ℕ
+from c = 2 * origin c .rank .result
 
-mul-before : tie.Need-mul-before Inv-loop μ-loop
-mul-before c = search needs
+moved : (c : tie.After-move-on) → Moved (now (start (origin c) .args .table)) (from c + (2 * start (origin c) .args .used - from c)) (from c)
+    (putMid (from c) (length (now (start (origin c) .args .table)) - from c) (now (start (origin c) .args .table)) (c .move-on .last .0))
+moved c = part-moved _ _ _ _ (omega (arith, within (origin c), start (origin c) .pre .1 .1 .0)) (c .move-on .ensures)
 
-mul-before-2 : tie.Need-mul-before-2 Inv-loop μ-loop
-mul-before-2 c = search needs
+rank-requires : tie.Need-rank-requires
+rank-requires c κs = search needs
 
-slice-read-before : tie.Need-slice-read-before Inv-loop μ-loop
-slice-read-before c = search needs
+mul-from : tie.Need-mul-from
+mul-from c = record { fits = omega (arith, within c, start c .pre .1 .1 .0) }
 
-mul-moved : tie.Need-mul-moved Inv-loop μ-loop
-mul-moved c = search needs
+mul-move-on : tie.Need-mul-move-on
+mul-move-on c = record { fits = omega (arith, within c, start c .pre .1 .1 .0) }
 
-add-moved : tie.Need-add-moved Inv-loop μ-loop
-add-moved c = search needs
+sub-move-on : tie.Need-sub-move-on
+sub-move-on c = omega (arith, within c, start c .pre .1 .1 .0)
 
-mul-moved-2 : tie.Need-mul-moved-2 Inv-loop μ-loop
-mul-moved-2 c = search needs
+part-move-on-start : tie.Need-part-move-on-start
+part-move-on-start c = omega (arith, within c, start c .pre .1 .1 .0)
 
-slice-read-moved : tie.Need-slice-read-moved Inv-loop μ-loop
-slice-read-moved c = search needs
+part-move-on-end : tie.Need-part-move-on-end
+part-move-on-end c = search needs
 
-write-requires : tie.Need-write-requires Inv-loop μ-loop
-write-requires c κs = search needs
+mul-move-on-2 : tie.Need-mul-move-on-2
+mul-move-on-2 c = search needs
 
-loop-less : tie.Need-loop-less Inv-loop μ-loop
-loop-less c = search needs
+sub-move-on-2 : tie.Need-sub-move-on-2
+sub-move-on-2 c = omega (arith, within (c .before))
 
-loop-again : tie.Need-loop-again Inv-loop μ-loop
-loop-again c =
-    let e = c .before .before .before .before .before in
-    let l = e .before .before .before in
-    let a = l .before .before in
-    rw (c .before .before .write .ensures)
-    (shift-more (w a) _ _ (a .pre .1 .1 .1 .1) (fits a) (room a) (a .pre .1 .1 .1 .0) _ _ (l .loop .inv) _ (omega arith) (e .if1 .left))
+move-on-requires : tie.Need-move-on-requires
+move-on-requires c κs = let h = within (c .before) in let r = start (c .before) .pre .1 .1 .0 in simp (length-take, length-drop) (omega arith)
 
-write-requires-2 : tie.Need-write-requires-2 Inv-loop μ-loop
-write-requires-2 c κs = search needs
+write-requires : tie.Need-write-requires
+write-requires c κs =
+    let m = c .before .before .before in
+    omega (arith, moved m .size, within (origin m), start (origin m) .pre .1 .1 .0)
 
-same-length : tie.Need-same-length Inv-loop μ-loop
+same-length : tie.Need-same-length
 same-length c = search needs
 
-returns : tie.Need-returns Inv-loop μ-loop
+returns : tie.Need-returns
 returns c =
-    let e = c .before .before .before .before in
-    let l = e .before in
-    let a = l .before .before in
-    c .before .before .write2 .ensures
-    ∙ shift-end (w a) _ _ (a .pre .1 .1 .1 .1) (fits a) (room a) (a .pre .1 .1 .1 .0) _ _ (l .loop .inv)
-    (⊎-elim (λ v. inl (omega arith)) (λ v. inr (l .loop .i - 1, omega arith, v .2 .taken)) (e .loop-test .came))
+    let m = c .before .before .before .before .before .before in
+    let r = origin m in
+    let a = start r in
+    c .before .before .write .ensures
+    ∙ inserted (w a) _ _ (a .pre .1 .1 .1 .1) (omega arith) (omega (arith, a .pre .1 .0, a .pre .1 .1 .0)) (a .pre .1 .1 .1 .0) _ _ _ (r .rank .ensures) (omega (arith, within r, a .pre .1 .0)) (moved m)
 
 pub insert-spec : {M : Type 1} → statement M
 insert-spec =
     tie.close
     (tie.spec
-    Inv-loop
-    μ-loop
-    loop-holds
-    sub-p
-    mul-before
-    mul-before-2
-    slice-read-before
-    mul-moved
-    add-moved
-    mul-moved-2
-    slice-read-moved
+    rank-requires
+    mul-from
+    mul-move-on
+    sub-move-on
+    part-move-on-start
+    part-move-on-end
+    mul-move-on-2
+    sub-move-on-2
+    move-on-requires
     write-requires
-    loop-less
-    loop-again
-    write-requires-2
     same-length
     returns)
