@@ -6,9 +6,9 @@ use rules::Run;
 use rules::Step;
 ghost use mathlib.Core.Path.{_≡_};
 ghost use lib.ListN.{replicate};
-ghost use Rattle.rules.specs.Ledgers.{emptyLedger};
-ghost use Rattle.rules.specs.Parcels.{noParcel};
-ghost use Rattle.rules.specs.Runs.{lent, Stepped};
+ghost use Rattle.rules.specs.meaning.Ledgers.{emptyLedger};
+ghost use Rattle.rules.specs.meaning.Parcels.{noParcel};
+ghost use Rattle.rules.specs.meaning.Runs.{lent, Stepped};
 ghost use Rattle.kept.specs.Kept.{keptState};
 
 pub struct Kept {

@@ -9,7 +9,7 @@ use native.Mathlib.Omega.{arith}
 use lib.Dec.{eqb}
 use borrow.Author.Tests.{le-leb, lt-leb, eq-eqb, ne-eqb, eqb-true, eqb-false}
 use Rattle.rules.specs.declared.Ledger.{Ledger}
-use Rattle.rules.specs.Ledgers.{ledgerSound}
+use Rattle.rules.specs.meaning.Ledgers.{ledgerSound}
 
 difference : (t : Bool) (a b w : ℕ) → b ≤ a → eqb (a - b) w ≡ t → t ≡ eqb a (b + w)
 difference true a b w h e = sym (eq-eqb a (b + w) (omega (arith, eqb-true (a - b) w e)))

@@ -3,8 +3,8 @@
 use rules::Ledger;
 use rules::M;
 ghost use mathlib.Core.Path.{_≡_};
-ghost use Rattle.rules.specs.Lengths.{M};
-ghost use Rattle.rules.specs.Ledgers.{ledgerSound, oneMore, raisedIf, raisedLedger, emptiedIf};
+ghost use Rattle.rules.specs.meaning.Lengths.{M};
+ghost use Rattle.rules.specs.meaning.Ledgers.{ledgerSound, oneMore, raisedIf, raisedLedger, emptiedIf};
 
 // Whether each counter is at most the largest, and what went out is what came in or waits. The counters are bounded before they are
 // added, and the difference is compared, so that nothing wraps however many are said to wait.

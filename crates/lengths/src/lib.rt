@@ -1,9 +1,9 @@
-// The rules on one length, by value: the paper's Figure 4 for one id. What each means is said in `specs/Lengths.antt` of the crate `rules`.
+// The rules on one length, by value: the paper's Figure 4 for one id. What each means is said in `specs/meaning/Lengths.antt` of the crate `rules`.
 use rules::Answer;
 use rules::M;
 ghost use mathlib.Core.Path.{_≡_};
-ghost use Rattle.rules.specs.Lengths.{M, listed, afterAdd, join};
-ghost use Rattle.rules.specs.Operations.{removedLength};
+ghost use Rattle.rules.specs.meaning.Lengths.{M, listed, afterAdd, join};
+ghost use Rattle.rules.specs.meaning.Operations.{removedLength};
 
 // Whether an id of this length is listed.
 pub fn listed(length: u64) -> bool

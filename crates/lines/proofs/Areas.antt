@@ -8,10 +8,12 @@ use borrow.Author.Tests.{lt-ltb, le-ltb}
 use lib.Bits.{bitAnd, and-mask}
 use lib.ListN.{length, set}
 use Rattle.rules.specs.declared.Line.the-variants.{Numbers, NoLine}
-use Rattle.rules.specs.Lines.{numbersOf}
-use Rattle.rules.specs.Runs.{firstGiven}
-use Rattle.rules.specs.Put.{put, put-nil, put-cons}
-use Rattle.rules.specs.Area.{little, little-length, word, laid, isNoLine, readRefusal, areaAfter}
+use Rattle.rules.specs.meaning.Lines.{numbersOf}
+use Rattle.rules.specs.meaning.Runs.{firstGiven}
+use Rattle.rules.specs.meaning.Put.{put}
+use Rattle.rules.specs.laws.Put.{put-nil, put-cons}
+use Rattle.rules.specs.meaning.Area.{little, word, laid, isNoLine, readRefusal, areaAfter}
+use Rattle.rules.specs.laws.line.Area.{little-length}
 use Rattle.lines.proofs.Writings.{put-four}
 
 -- ---- a number in bytes: what is left of it, put at the place, gives the buffer that is promised

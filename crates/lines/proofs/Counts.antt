@@ -3,8 +3,8 @@ use mathlib.Core.Path.{_≡_, ap, _∙_}
 use Prim.Native.Nat.{ℕ, _+_, _/_, _^_, _≤_, _<_}
 use native.Mathlib.Omega.{arith}
 use lib.ListN.{length}
-use Rattle.rules.specs.Number.{digits}
-use Rattle.rules.specs.NumberLaws.{one-digit, more-digits}
+use Rattle.rules.specs.meaning.Number.{digits}
+use Rattle.rules.specs.laws.line.Numbers.{one-digit, more-digits}
 
 pub two-digits : (n : ℕ) → 10 ≤ n → n < 100 → length (digits n) ≡ 2
 two-digits n l h = omega (arith, more-digits n l (omega arith), one-digit (n / 10) (omega arith))

@@ -11,10 +11,10 @@ use borrow.Author.Tests.{lt-ltb}
 use lib.ListN.{length, getD, drop, length-drop, drop-of-length-le}
 use lib.Seq.{drop-cons, getD-drop}
 use Rattle.rules.specs.declared.Piece.the-variants.{Read, Refused}
-use Rattle.rules.specs.Text.{front, refused, pick}
-use Rattle.rules.specs.Number.{digitOf, digitRun, fair, judged, readNumber}
-use Rattle.rules.specs.NumberLaws.{run-stop, run-front, run-grows, fair-large, fair-empty}
-use Rattle.rules.specs.LinePlaces.{numberAt, to-place, to-none}
+use Rattle.rules.specs.meaning.Text.{front, refused, pick}
+use Rattle.rules.specs.meaning.Number.{digitOf, digitRun, fair, judged, readNumber}
+use Rattle.rules.specs.laws.line.Numbers.{run-stop, run-front, run-grows, fair-large, fair-empty}
+use Rattle.rules.specs.laws.line.Places.{numberAt, to-place, to-none}
 
 run-turn : (line : List ℕ) (v i : ℕ) → i < length line → digitOf (getD line i 0) < 10 → digitRun v (drop i line) ≡ digitRun (v * 10 + digitOf (getD line i 0)) (drop (i + 1) line)
 unfolding digitRun

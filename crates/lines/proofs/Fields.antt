@@ -6,11 +6,12 @@ use Prim.Native.Nat.{ℕ, _+_, _≤_}
 use lib.ListN.{length, drop, length-append}
 use Rattle.rules.specs.declared.Piece.{Piece}
 use Rattle.rules.specs.declared.Piece.the-variants.{Read, Refused}
-use Rattle.rules.specs.Text.{front, behind}
-use Rattle.rules.specs.Number.{digits}
-use Rattle.rules.specs.Lines.{field, readField}
-use Rattle.rules.specs.LinePlaces.{numberAt, textAt, fieldAt, to-place, from-none, text-says}
-use Rattle.rules.specs.Put.{put, put-nil, put-put}
+use Rattle.rules.specs.meaning.Text.{front, behind}
+use Rattle.rules.specs.meaning.Number.{digits}
+use Rattle.rules.specs.meaning.Lines.{field, readField}
+use Rattle.rules.specs.laws.line.Places.{numberAt, textAt, fieldAt, to-place, from-none, text-says}
+use Rattle.rules.specs.meaning.Put.{put}
+use Rattle.rules.specs.laws.Put.{put-nil, put-put}
 
 pub field-off : (used : Bool) (name line : List ℕ) (place : ℕ) → used ≡ false → place ≤ length line → Read 0 place ≡ fieldAt used name line place
 unfolding fieldAt readField

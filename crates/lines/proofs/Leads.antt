@@ -7,10 +7,10 @@ use native.Mathlib.Omega.{arith}
 use lib.Dec.{eqb}
 use lib.ListN.{length, getD, take, drop, length-append, List·getD-append}
 use Rattle.rules.specs.declared.Piece.the-variants.{Read, Refused}
-use Rattle.rules.specs.Text.{front, refused, behind}
-use Rattle.rules.specs.Lines.{lead, kindOf}
-use Rattle.rules.specs.LineLaws.{kind-lead, kind-text, behind-is, behind-text, front-cases}
-use Rattle.rules.specs.LinePlaces.{textAt, kindAt, to-place, to-none, from-none, text-says}
+use Rattle.rules.specs.meaning.Text.{front, refused, behind}
+use Rattle.rules.specs.meaning.Lines.{lead, kindOf}
+use Rattle.rules.specs.laws.line.Lines.{kind-lead, kind-text, behind-is, behind-text, front-cases}
+use Rattle.rules.specs.laws.line.Places.{textAt, kindAt, to-place, to-none, from-none, text-says}
 
 -- ---- the leads, kind by kind
 pub same-len : (k kind : ℕ) → k ≤ kind → kind ≤ k → length (lead k) ≡ length (lead kind)

@@ -7,8 +7,8 @@ use borrow.Author.Tests.{eq-eqb, ne-eqb}
 use lib.ListN.{length, getD, drop, drop-of-length-le}
 use lib.Seq.{drop-cons}
 use Rattle.rules.specs.declared.Piece.the-variants.{Read, Refused}
-use Rattle.rules.specs.Text.{front, refused, behind}
-use Rattle.rules.specs.LinePlaces.{textAt, to-place, to-none}
+use Rattle.rules.specs.meaning.Text.{front, refused, behind}
+use Rattle.rules.specs.laws.line.Places.{textAt, to-place, to-none}
 
 pub behind-turn : (line text : List ℕ) (i j : ℕ) → i < length line → j < length text → getD line i 0 ≡ getD text j 0 → behind (drop j text) (drop i line) ≡ behind (drop (j + 1) text) (drop (i + 1) line)
 unfolding behind

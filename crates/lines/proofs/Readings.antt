@@ -6,11 +6,11 @@ use lib.ListN.{length, drop, drop-of-length-le}
 use lib.Seq.{drop-cons}
 use Rattle.rules.specs.declared.Piece.the-variants.{Read, Refused}
 use Rattle.rules.specs.declared.Line.the-variants.{Numbers, NoLine}
-use Rattle.rules.specs.Text.{front}
-use Rattle.rules.specs.Number.{readNumber}
-use Rattle.rules.specs.Lines.{toName, idName, hasSecond, hasId, kindOf, readField, ended, numbersOf}
-use Rattle.rules.specs.LineLaws.{no-kind, no-first, no-second, no-id, at-end}
-use Rattle.rules.specs.LinePlaces.{numberAt, fieldAt, kindAt, from-none, number-says, field-says, kind-says}
+use Rattle.rules.specs.meaning.Text.{front}
+use Rattle.rules.specs.meaning.Number.{readNumber}
+use Rattle.rules.specs.meaning.Lines.{toName, idName, hasSecond, hasId, kindOf, readField, ended, numbersOf}
+use Rattle.rules.specs.laws.line.Lines.{no-kind, no-first, no-second, no-id, at-end}
+use Rattle.rules.specs.laws.line.Places.{numberAt, fieldAt, kindAt, from-none, number-says, field-says, kind-says}
 
 module _ (line : List ℕ) where
   pub line-kind : Refused ≡ kindAt line → NoLine ≡ numbersOf line

@@ -6,9 +6,9 @@ use native.Mathlib.Omega.{arith}
 use native.Mathlib.Numerals.{add-one}
 use lib.ListN.{length, getD, take, drop, set, length-set, take-append-drop}
 use lib.Seq.{drop-cons, getD-set-same, drop-set-lt, take-set-le, take-take, take-length, paste, paste-suc}
-use Rattle.rules.specs.Number.{digits}
-use Rattle.rules.specs.NumberLaws.{digits-small, digits-large}
-use Rattle.rules.specs.Put.{put}
+use Rattle.rules.specs.meaning.Number.{digits}
+use Rattle.rules.specs.laws.line.Numbers.{digits-small, digits-large}
+use Rattle.rules.specs.meaning.Put.{put}
 
 -- from the place of a stored byte on
 stored : (out : List ℕ) (j b : ℕ) → j < length out → drop j (set out j b) ≡ b ∷ drop (suc j) out

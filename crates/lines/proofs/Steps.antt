@@ -10,8 +10,8 @@ use lib.ListN.{getD}
 use Rattle.rules.specs.declared.Line.the-variants.{Numbers, NoLine}
 use Rattle.rules.specs.declared.Named.{Named}
 use Rattle.rules.specs.declared.Named.the-variants.{NoStep}
-use Rattle.rules.specs.Lines.{hasSecond, hasId, namesStep, numbersOf}
-use Rattle.rules.specs.StepLines.{steps, stepFor, stepIn, stepOf}
+use Rattle.rules.specs.meaning.Lines.{hasSecond, hasId, namesStep, numbersOf}
+use Rattle.rules.specs.meaning.StepLines.{steps, stepFor, stepIn, stepOf}
 
 module _ (kind second i : ℕ) where
   pub kind-low : kind < 1 → false ≡ namesStep kind second i

@@ -6,13 +6,14 @@ use Prim.Native.Nat.{ℕ, _+_, _≤_, _<_}
 use native.Mathlib.Omega.{arith}
 use borrow.Author.Tests.{lt-ltb, le-ltb, eq-eqb, ne-eqb}
 use lib.ListN.{length, length-append}
-use Rattle.rules.specs.Number.{digits}
-use Rattle.rules.specs.NumberLaws.{below, by-test}
-use Rattle.rules.specs.Lines.{lead, toName, idName, hasSecond, hasId, field, textOf, namesStep}
-use Rattle.rules.specs.LineLaws.{step-says}
-use Rattle.rules.specs.Runs.{firstGiven}
-use Rattle.rules.specs.Put.{put, put-nil, put-put}
-use Rattle.rules.specs.Writing.{checkOf, textFor, Filled}
+use Rattle.rules.specs.meaning.Number.{digits}
+use Rattle.rules.specs.laws.line.Numbers.{below, by-test}
+use Rattle.rules.specs.meaning.Lines.{lead, toName, idName, hasSecond, hasId, field, textOf, namesStep}
+use Rattle.rules.specs.laws.line.Lines.{step-says}
+use Rattle.rules.specs.meaning.Runs.{firstGiven}
+use Rattle.rules.specs.meaning.Put.{put}
+use Rattle.rules.specs.laws.Put.{put-nil, put-put}
+use Rattle.rules.specs.meaning.Writing.{checkOf, textFor, Filled}
 
 pub line-length : (kind first second i : ℕ) → length (textOf kind first second i) ≡ length (lead kind) + length (digits first) + length (field (hasSecond kind) toName second) + length (field (hasId kind) idName i)
 unfolding textOf

@@ -4,8 +4,8 @@ use rules::Line;
 ghost use mathlib.Core.Path.{_≡_};
 ghost use Prim.Native.Nat.{_+_, _≤_};
 ghost use lib.ListN.{length};
-ghost use Rattle.rules.specs.Area.{word, readRefusal, areaAfter};
-ghost use Rattle.rules.specs.Put.{put};
+ghost use Rattle.rules.specs.meaning.Area.{word, readRefusal, areaAfter};
+ghost use Rattle.rules.specs.meaning.Put.{put};
 
 // Writes a number in eight bytes at a place, the lowest first.
 fn write_word(out: &mut [u8], place: usize, n: u64)

@@ -9,10 +9,10 @@ ghost use mathlib.Core.Path.{_≡_};
 ghost use mathlib.Core.Bool.{cond};
 ghost use Prim.Native.Nat.{_+_, _≤_};
 ghost use lib.ListN.{length};
-ghost use Rattle.rules.specs.Number.{digits};
-ghost use Rattle.rules.specs.Lines.{field};
-ghost use Rattle.rules.specs.LinePlaces.{fieldAt};
-ghost use Rattle.rules.specs.Put.{put};
+ghost use Rattle.rules.specs.meaning.Number.{digits};
+ghost use Rattle.rules.specs.meaning.Lines.{field};
+ghost use Rattle.rules.specs.laws.line.Places.{fieldAt};
+ghost use Rattle.rules.specs.meaning.Put.{put};
 
 // The number behind its name, and the place behind it. One that is not used is 0 and takes no byte.
 pub(crate) fn read_field(used: bool, name: &[u8], line: &[u8], place: usize) -> Piece

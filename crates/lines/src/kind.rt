@@ -5,9 +5,9 @@ use rules::Piece;
 ghost use mathlib.Core.Path.{_≡_};
 ghost use Prim.Native.Nat.{ℕ, _≤_};
 ghost use lib.ListN.{length, take, getD};
-ghost use Rattle.rules.specs.Lines.{lead, hasSecond, hasId};
-ghost use Rattle.rules.specs.LinePlaces.{kindAt};
-ghost use Rattle.rules.specs.Put.{put};
+ghost use Rattle.rules.specs.meaning.Lines.{lead, hasSecond, hasId};
+ghost use Rattle.rules.specs.laws.line.Places.{kindAt};
+ghost use Rattle.rules.specs.meaning.Put.{put};
 
 // How many bytes stand before the first number of a line.
 pub(crate) fn lead_len(kind: u64) -> usize

@@ -3,9 +3,9 @@ use rules::Piece;
 ghost use mathlib.Core.Path.{_≡_};
 ghost use Prim.Native.Nat.{_+_, _≤_};
 ghost use lib.ListN.{length};
-ghost use Rattle.rules.specs.Number.{digitOf, fair, digits};
-ghost use Rattle.rules.specs.LinePlaces.{numberAt};
-ghost use Rattle.rules.specs.Put.{put};
+ghost use Rattle.rules.specs.meaning.Number.{digitOf, fair, digits};
+ghost use Rattle.rules.specs.laws.line.Places.{numberAt};
+ghost use Rattle.rules.specs.meaning.Put.{put};
 
 // The digit that a byte stands for. 10 says that it stands for none: then one test tells digits from the rest.
 fn digit(c: u8) -> u64

@@ -7,7 +7,7 @@ use crate::number::read_number;
 use rules::Line;
 use rules::Piece;
 ghost use mathlib.Core.Path.{_≡_};
-ghost use Rattle.rules.specs.Lines.{numbersOf};
+ghost use Rattle.rules.specs.meaning.Lines.{numbersOf};
 
 // The four numbers of a line, or that the text is none. A byte behind the last number makes it none.
 pub fn read_line(line: &[u8]) -> Line

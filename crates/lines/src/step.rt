@@ -8,11 +8,11 @@ use rules::Step;
 ghost use mathlib.Core.Path.{_≡_};
 ghost use mathlib.Core.Bool.{_||_};
 ghost use lib.Dec.{eqb};
-ghost use Rattle.rules.specs.Lines.{namesStep};
+ghost use Rattle.rules.specs.meaning.Lines.{namesStep};
 ghost use Prim.Native.Nat.{_≤_};
 ghost use lib.ListN.{getD};
 ghost use Rattle.rules.specs.declared.Named.the-variants.{Is, NoStep};
-ghost use Rattle.rules.specs.StepLines.{steps, stepFor, stepOf};
+ghost use Rattle.rules.specs.meaning.StepLines.{steps, stepFor, stepOf};
 
 // "unused ones 0": whether a number is what it may be.
 fn is_proper(used: bool, n: u64) -> bool

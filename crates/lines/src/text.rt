@@ -3,8 +3,8 @@ use rules::Piece;
 ghost use mathlib.Core.Path.{_≡_};
 ghost use Prim.Native.Nat.{_+_, _≤_};
 ghost use lib.ListN.{length};
-ghost use Rattle.rules.specs.LinePlaces.{textAt};
-ghost use Rattle.rules.specs.Put.{put};
+ghost use Rattle.rules.specs.laws.line.Places.{textAt};
+ghost use Rattle.rules.specs.meaning.Put.{put};
 
 // The place behind a piece of text, where the piece stands at a place of the line.
 pub(crate) fn read_text(line: &[u8], place: usize, text: &[u8]) -> Piece

@@ -12,9 +12,9 @@ ghost use mathlib.Core.Path.{_≡_};
 ghost use Prim.Native.Nat.{_≤_};
 ghost use lib.ListN.{length};
 ghost use denote.Ref.{ptr};
-ghost use Rattle.rules.specs.Lines.{textOf};
-ghost use Rattle.rules.specs.Put.{put};
-ghost use Rattle.rules.specs.Writing.{checkOf, textFor, Filled};
+ghost use Rattle.rules.specs.meaning.Lines.{textOf};
+ghost use Rattle.rules.specs.meaning.Put.{put};
+ghost use Rattle.rules.specs.meaning.Writing.{checkOf, textFor, Filled};
 
 // How many bytes the line of a step has.
 fn line_len(kind: u64, first: u64, second: u64, id: u64) -> usize

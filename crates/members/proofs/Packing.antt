@@ -13,10 +13,11 @@ use lib.Seq.{getD-drop, drop-drop, take-all}
 use lib.Bits.{bitAnd, bitOr, and-mask, or-zero-r, or-shifted-r}
 use lib.Pow.{shl-exact}
 use mir.Val.{boolByte}
-use Rattle.rules.specs.Order.{lt-or-le}
-use Rattle.rules.specs.Members.{bitsOf, bytesOf, bytesFor, answersOf}
-use Rattle.rules.specs.MemberLaws.{bit, bits-lt, bits-more}
-use Rattle.rules.specs.Put.{put, put-cons, put-nil}
+use Rattle.rules.specs.laws.table.Order.{lt-or-le}
+use Rattle.rules.specs.meaning.Members.{bitsOf, bytesOf, bytesFor, answersOf}
+use Rattle.rules.specs.laws.Members.{bit, bits-lt, bits-more}
+use Rattle.rules.specs.meaning.Put.{put}
+use Rattle.rules.specs.laws.Put.{put-cons, put-nil}
 
 -- a bit above all that a byte holds
 shifted : (byte k : ℕ) (l : Bool) → k < 8 → byte < 2 ^ k → bitOr byte (boolByte l * 2 ^ k % 2 ^ 8) ≡ byte + 2 ^ k * cond l 1 0

@@ -5,12 +5,12 @@ use mathlib.Core.Path.{_≡_, refl}
 use mathlib.Core.List.{List, [], _∷_}
 use lib.ListN.{length}
 use borrow.Author.Tests.{ltb-false, not-false}
-use Rattle.rules.specs.Table.{SoundTable}
-use Rattle.rules.specs.Operations.{unlessRefused}
-use Rattle.rules.specs.Runs.{firstGiven}
-use Rattle.rules.specs.RunLaws.{pass}
-use Rattle.rules.specs.Put.{put}
-use Rattle.rules.specs.Members.{bytesFor, answersOf, membersRefusal, membersAfter, Answered}
+use Rattle.rules.specs.meaning.Table.{SoundTable}
+use Rattle.rules.specs.meaning.Operations.{unlessRefused}
+use Rattle.rules.specs.meaning.Runs.{firstGiven}
+use Rattle.rules.specs.laws.run.Steps.{pass}
+use Rattle.rules.specs.meaning.Put.{put}
+use Rattle.rules.specs.meaning.Members.{bytesFor, answersOf, membersRefusal, membersAfter, Answered}
 
 pub accepted : (t : List ℕ) (ids room : ℕ) → membersRefusal t ids room ≡ 0 → SoundTable t × (ids ≤ 4096) × (bytesFor ids ≤ room)
 unfolding membersRefusal

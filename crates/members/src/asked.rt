@@ -5,9 +5,9 @@ use crate::judge::refusal_of;
 ghost use mathlib.Core.Path.{_≡_};
 ghost use Prim.Native.Nat.{_≤_};
 ghost use lib.ListN.{length};
-ghost use Rattle.rules.specs.Table.{SoundTable};
-ghost use Rattle.rules.specs.Put.{put};
-ghost use Rattle.rules.specs.Members.{bytesFor, answersOf, Answered};
+ghost use Rattle.rules.specs.meaning.Table.{SoundTable};
+ghost use Rattle.rules.specs.meaning.Put.{put};
+ghost use Rattle.rules.specs.meaning.Members.{bytesFor, answersOf, Answered};
 
 // Each byte of answers is stored once; the bytes behind them are not touched.
 fn fill(table: &[u64], ids: &[u64], answers: &mut [u8])

@@ -4,8 +4,8 @@ ghost use mathlib.Core.Path.{_≡_};
 ghost use mathlib.Core.Bool.{cond};
 ghost use Prim.Native.Nat.{_+_, _*_, _^_, _%_, _≤_, _<_, min};
 ghost use lib.ListN.{length, take, drop};
-ghost use Rattle.rules.specs.Table.{SoundTable};
-ghost use Rattle.rules.specs.Members.{bitsOf};
+ghost use Rattle.rules.specs.meaning.Table.{SoundTable};
+ghost use Rattle.rules.specs.meaning.Members.{bitsOf};
 
 // A byte with answer i put into its bit i mod 8. The byte holds the answers before it, so that bit and those above it are still 0.
 fn with_answer(byte: u8, i: usize, listed: bool) -> u8

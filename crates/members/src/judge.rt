@@ -1,7 +1,7 @@
 // What a list of ids asked of a table is refused for.
 ghost use mathlib.Core.Path.{_≡_};
 ghost use Prim.Native.Nat.{_≤_};
-ghost use Rattle.rules.specs.Members.{bytesFor, membersRefusal};
+ghost use Rattle.rules.specs.meaning.Members.{bytesFor, membersRefusal};
 
 // How many bytes so many answers take.
 pub(crate) fn bytes_for(ids: usize) -> usize

@@ -1,7 +1,7 @@
 // The answer for one id.
 ghost use mathlib.Core.Path.{_≡_};
-ghost use Rattle.rules.specs.Table.{SoundTable};
-ghost use Rattle.rules.specs.Members.{isMember};
+ghost use Rattle.rules.specs.meaning.Table.{SoundTable};
+ghost use Rattle.rules.specs.meaning.Members.{isMember};
 
 // Whether the table lists the id.
 pub(crate) fn is_member(table: &[u64], id: u64) -> bool

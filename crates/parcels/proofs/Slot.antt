@@ -25,7 +25,7 @@ use denote.Index.{place, place-is}
 use denote.Struct.Laws as LL
 use Rattle.rules.specs.declared.Parcel.{Parcel}
 use Rattle.rules.specs.declared.Scan.{Scan}
-use Rattle.rules.specs.Parcels.{noParcel}
+use Rattle.rules.specs.meaning.Parcels.{noParcel}
 use Rattle.parcels.specs.TurnLaws.{start}
 use Rattle.rules.proofs.Parcel as P
 use Rattle.rules.proofs.Parcel.Laws as P′

@@ -14,8 +14,8 @@ use lib.ListN.{length, drop, getD}
 use lib.Seq.{drop-cons, drop-length}
 use borrow.Author.Tests.{lt-ltb, le-ltb, ltb-false}
 use Rattle.rules.specs.declared.Parcel.{Parcel}
-use Rattle.rules.specs.Parcels.{noParcel, isFree, lowestFree}
-use Rattle.rules.specs.SlotLaws.{lowest-within}
+use Rattle.rules.specs.meaning.Parcels.{noParcel, isFree, lowestFree}
+use Rattle.rules.specs.laws.run.Slots.{lowest-within}
 
 abbrev pub found : List Parcel → ℕ → ℕ → ℕ
 found ys i end = cond (ltb i end) (i + lowestFree (drop i ys)) end

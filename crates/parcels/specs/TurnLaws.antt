@@ -19,7 +19,7 @@ use lib.Seq.{drop-cons, drop-length}
 use borrow.Author.Tests.{lt-ltb, le-ltb, ltb-true, ltb-false}
 use Rattle.rules.specs.declared.Parcel.{Parcel}
 use Rattle.rules.specs.declared.Scan.{Scan}
-use Rattle.rules.specs.Parcels.{noParcel, isFree, isOccupied, slotsSound, waiting, lowestFree, scanOf, cleared}
+use Rattle.rules.specs.meaning.Parcels.{noParcel, isFree, isOccupied, slotsSound, waiting, lowestFree, scanOf, cleared}
 use Rattle.parcels.specs.Turns.{lookBy, lookOf}
 
 pub look-by : (most sites at : ℕ) (p : Parcel) (s : Scan) (f h l : Bool) → isFree p ≡ f → isOccupied most sites p ≡ h → ltb at (s .free) ≡ l → lookOf most sites at p s ≡ lookBy f h l at s

@@ -5,7 +5,7 @@ use mathlib.Core.Bool.{Bool, _&&_, cond}
 use lib.Dec.{ltb}
 use Rattle.rules.specs.declared.Parcel.{Parcel}
 use Rattle.rules.specs.declared.Scan.{Scan}
-use Rattle.rules.specs.Parcels.{isFree, isOccupied}
+use Rattle.rules.specs.meaning.Parcels.{isFree, isOccupied}
 
 -- by three tests: the slot is free; it is rightly occupied; its number is below the lowest free one that is known
 abbrev pub lookBy : Bool → Bool → Bool → ℕ → Scan → Scan

@@ -1,4 +1,4 @@
-// The parcel list: a lent slice of slots, read, stored to, counted and cleared. What each function means is said in `specs/Parcels` of the
+// The parcel list: a lent slice of slots, read, stored to, counted and cleared. What each function means is said in `specs/meaning/Parcels.antt` of the
 // crate `rules`. Every function here takes any slots at all: whether they are sound is one of the things that a scan tells.
 use rules::M;
 use rules::Parcel;
@@ -7,8 +7,8 @@ ghost use mathlib.Core.Path.{_≡_};
 ghost use mathlib.Core.Bool.{cond};
 ghost use Prim.Native.Nat.{_≤_, _<_, _^_, min};
 ghost use lib.ListN.{set, getD};
-ghost use Rattle.rules.specs.Lengths.{M};
-ghost use Rattle.rules.specs.Parcels.{noParcel, isFree, isOccupied, lowestFree, scanOf, cleared};
+ghost use Rattle.rules.specs.meaning.Lengths.{M};
+ghost use Rattle.rules.specs.meaning.Parcels.{noParcel, isFree, isOccupied, lowestFree, scanOf, cleared};
 ghost use Rattle.parcels.specs.Turns.{lookOf};
 
 // Whether a slot is free. There is no early exit, here and below: a scan then has few branches to guess.

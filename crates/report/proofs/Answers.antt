@@ -6,10 +6,11 @@ use mathlib.Core.Path.{_≡_, sym, ap, _∙_}
 use mathlib.Core.List.{List, [], _∷_, _++_}
 use lib.ListN.{length}
 use borrow.Author.Tests.{lt-ltb, le-ltb}
-use Rattle.rules.specs.Text.{ascii}
-use Rattle.rules.specs.Put.{put, put-nil}
-use Rattle.rules.specs.Reports.{lineEnd, inputLimit, reportRoom, reportOf, Told, printedOf, printedFor, Printed}
-use Rattle.rules.specs.ReportLaws.{report-over, report-short, report-taken, told-refused, told-taken}
+use Rattle.rules.specs.meaning.Text.{ascii}
+use Rattle.rules.specs.meaning.Put.{put}
+use Rattle.rules.specs.laws.Put.{put-nil}
+use Rattle.rules.specs.meaning.Reports.{lineEnd, inputLimit, reportRoom, reportOf, Told, printedOf, printedFor, Printed}
+use Rattle.rules.specs.laws.report.Fits.{report-over, report-short, report-taken, told-refused, told-taken}
 use Rattle.report.specs.Laid.{Laid}
 
 module _ (input before : List ℕ) where

@@ -9,16 +9,15 @@ use mathlib.Core.List.{List, [], _∷_, _++_, append-assoc}
 use lib.ListN.{length, take, drop, getD}
 use lib.Seq.{drop-cons, drop-length}
 use Rattle.rules.specs.declared.Parcel.{Parcel}
-use Rattle.rules.specs.Lengths.{M}
-use Rattle.rules.specs.Parcels.{isFree, noParcel, waiting}
-use Rattle.rules.specs.Table.{held}
-use Rattle.rules.specs.Runs.{State, tableAt}
-use Rattle.rules.specs.RunLaws.{StateSound}
-use Rattle.rules.specs.SoundRuns.{words-long}
-use Rattle.rules.specs.Sites.{tables-at}
-use Rattle.rules.specs.Text.{ascii}
-use Rattle.rules.specs.Number.{digits}
-use Rattle.rules.specs.Reports.{reportRun, lineEnd, countLine, ledgerLines, siteLine, siteLines, endLines}
+use Rattle.rules.specs.meaning.Lengths.{M}
+use Rattle.rules.specs.meaning.Parcels.{isFree, noParcel, waiting}
+use Rattle.rules.specs.meaning.Table.{held}
+use Rattle.rules.specs.meaning.Runs.{State, tableAt, StateSound}
+use Rattle.rules.specs.laws.run.Sound.{words-long}
+use Rattle.rules.specs.laws.run.Sites.{tables-at}
+use Rattle.rules.specs.meaning.Text.{ascii}
+use Rattle.rules.specs.meaning.Number.{digits}
+use Rattle.rules.specs.meaning.Reports.{reportRun, lineEnd, countLine, ledgerLines, siteLine, siteLines, endLines}
 use Rattle.report.specs.Tables.{ThreeTables}
 use Rattle.report.proofs.Words.{pair}
 

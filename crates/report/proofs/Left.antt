@@ -6,7 +6,8 @@ use native.Mathlib.Omega.{arith}
 use mathlib.Core.Path.{_≡_, refl, sym, _∙_}
 use mathlib.Core.List.{List, [], _∷_, _++_}
 use lib.ListN.{length, set, length-append}
-use Rattle.rules.specs.Put.{put, put-nil, put-length, put-put, put-cons}
+use Rattle.rules.specs.meaning.Put.{put}
+use Rattle.rules.specs.laws.Put.{put-nil, put-length, put-put, put-cons}
 use Rattle.report.specs.Laid.{Laid}
 
 pub record Left (out : List ℕ) (place : ℕ) (text : List ℕ) (end : ℕ) (wanted : List ℕ) : Type 0 where

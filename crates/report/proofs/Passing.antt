@@ -10,14 +10,13 @@ use lib.Seq.{slice, slice-empty, drop-length}
 use Rattle.rules.specs.declared.Answer.{Answer}
 use Rattle.rules.specs.declared.Named.{Named}
 use Rattle.rules.specs.declared.Named.the-variants.{Is, NoStep}
-use Rattle.rules.specs.Runs.{State}
-use Rattle.rules.specs.RunLaws.{StateSound}
-use Rattle.rules.specs.Acts.{Acted, answerUnder, afterUnder}
-use Rattle.rules.specs.Put.{put}
-use Rattle.rules.specs.StepLines.{stepOf}
-use Rattle.rules.specs.Reports.{reportRun, reportStart, lineEnd, inputLimit, reportRoom, refusedLine, endLines, lineBy, saidOf, stateOf, reportFrom, reportOf}
-use Rattle.rules.specs.ReportLaws.{report-done, report-starts, report-fits}
-use Rattle.rules.specs.ReportPlaces.{report-line-at, report-byte-at, report-unended-at, start-sound, state-sound}
+use Rattle.rules.specs.meaning.Runs.{State, StateSound}
+use Rattle.rules.specs.meaning.Acts.{Acted, answerUnder, afterUnder}
+use Rattle.rules.specs.meaning.Put.{put}
+use Rattle.rules.specs.meaning.StepLines.{stepOf}
+use Rattle.rules.specs.meaning.Reports.{reportRun, reportStart, lineEnd, inputLimit, reportRoom, refusedLine, endLines, lineBy, saidOf, stateOf, reportFrom, reportOf}
+use Rattle.rules.specs.laws.report.Fits.{report-done, report-starts, report-fits}
+use Rattle.rules.specs.laws.report.Places.{report-line-at, report-byte-at, report-unended-at, start-sound, state-sound}
 use Rattle.report.specs.Laid.{Laid}
 use Rattle.report.specs.declared.ahead.Ahead.{Ahead}
 use Rattle.report.specs.Ahead.{Within, Ends, refusedAs, askedStep, ahead, Next}

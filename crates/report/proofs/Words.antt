@@ -14,12 +14,12 @@ use Rattle.rules.specs.declared.Step.{Step}
 use Rattle.rules.specs.declared.Step.the-variants.{Add, Remove, Query, Send, Merge, Deliver, Again, Lose}
 use Rattle.rules.specs.declared.Named.{Named}
 use Rattle.rules.specs.declared.Named.the-variants.{Is, NoStep}
-use Rattle.rules.specs.Lengths.{listed}
-use Rattle.rules.specs.Operations.{answer}
-use Rattle.rules.specs.Runs.{State, refusalOf, valueOf, answerOf}
-use Rattle.rules.specs.Text.{ascii}
-use Rattle.rules.specs.Number.{digits}
-use Rattle.rules.specs.Reports.{reportRun, lineEnd, refusedLine, queryLine, countLine, ledgerLines, acceptedLine, lineBy, saidOf}
+use Rattle.rules.specs.meaning.Lengths.{listed}
+use Rattle.rules.specs.meaning.Operations.{answer}
+use Rattle.rules.specs.meaning.Runs.{State, refusalOf, valueOf, answerOf}
+use Rattle.rules.specs.meaning.Text.{ascii}
+use Rattle.rules.specs.meaning.Number.{digits}
+use Rattle.rules.specs.meaning.Reports.{reportRun, lineEnd, refusedLine, queryLine, countLine, ledgerLines, acceptedLine, lineBy, saidOf}
 
 -- a name and a number
 abbrev pub pair : List ℕ → ℕ → List ℕ

@@ -8,8 +8,8 @@ use Rattle.rules.specs.declared.Named.{Named}
 use Rattle.rules.specs.declared.Named.the-variants.{Is, NoStep}
 use Rattle.rules.specs.declared.Step.{Step}
 use Rattle.rules.specs.declared.Step.the-variants.{Query}
-use Rattle.rules.specs.Runs.{State}
-use Rattle.rules.specs.Reports.{lineEnd, saidOf, stateOf, reportFrom}
+use Rattle.rules.specs.meaning.Runs.{State}
+use Rattle.rules.specs.meaning.Reports.{lineEnd, saidOf, stateOf, reportFrom}
 use Rattle.report.specs.declared.ahead.Ahead.{Ahead}
 
 -- the line that begins at `start` is not ended before `end`

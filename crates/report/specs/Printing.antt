@@ -7,10 +7,10 @@ use mathlib.Core.Path.{_≡_, sym, ap}
 use lib.ListN.{length, take}
 use lib.Seq.{length-take-le}
 use borrow.Author.Tests.{lt-ltb, le-ltb}
-use Rattle.rules.specs.NumberLaws.{below}
-use Rattle.rules.specs.Put.{put-length}
-use Rattle.rules.specs.Reports.{inputLimit, reportRoom, printedOf, printedFor, Printed}
-use Rattle.rules.specs.ReportLaws.{report-fits}
+use Rattle.rules.specs.laws.line.Numbers.{below}
+use Rattle.rules.specs.laws.Put.{put-length}
+use Rattle.rules.specs.meaning.Reports.{inputLimit, reportRoom, printedOf, printedFor, Printed}
+use Rattle.rules.specs.laws.report.Fits.{report-fits}
 
 -- with room for the largest report
 of-fits : (input : List ℕ) → length (printedOf input) ≤ reportRoom inputLimit

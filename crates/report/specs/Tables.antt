@@ -4,9 +4,9 @@ use Prim.Native.Nat.{ℕ, _<_}
 use mathlib.Core.Path.{_≡_}
 use mathlib.Core.List.{List}
 use lib.ListN.{length}
-use Rattle.rules.specs.Table.{SoundTable}
-use Rattle.rules.specs.Runs.{tableAt}
-use Rattle.rules.specs.Reports.{reportRun}
+use Rattle.rules.specs.meaning.Table.{SoundTable}
+use Rattle.rules.specs.meaning.Runs.{tableAt}
+use Rattle.rules.specs.meaning.Reports.{reportRun}
 
 pub record ThreeTables (ws : List ℕ) : Type 0 where
   pub count : length ws ≡ 48

@@ -8,10 +8,9 @@ use table::held;
 ghost use Prim.Native.Nat.{_+_, _≤_};
 ghost use mathlib.Core.Path.{_≡_};
 ghost use lib.ListN.{length};
-ghost use Rattle.rules.specs.Parcels.{waiting};
-ghost use Rattle.rules.specs.Runs.{lent};
-ghost use Rattle.rules.specs.RunLaws.{StateSound};
-ghost use Rattle.rules.specs.Reports.{reportRun, ledgerLines, siteLine, siteLines, endLines};
+ghost use Rattle.rules.specs.meaning.Parcels.{waiting};
+ghost use Rattle.rules.specs.meaning.Runs.{lent, StateSound};
+ghost use Rattle.rules.specs.meaning.Reports.{reportRun, ledgerLines, siteLine, siteLines, endLines};
 ghost use Rattle.report.specs.Laid.{Laid};
 ghost use Rattle.report.specs.Tables.{ThreeTables};
 

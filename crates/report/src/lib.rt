@@ -1,4 +1,4 @@
-// The text of a report from the text of steps. What a report is, is said in `specs/Reports.antt` of the crate `rules`.
+// The text of a report from the text of steps. What a report is, is said in `specs/meaning/Reports.antt` of the crate `rules`.
 mod ahead;
 mod ends;
 mod pass;
@@ -8,7 +8,7 @@ mod said;
 use crate::pass::write_report;
 use lines::write_text;
 use rules::Reported;
-ghost use Rattle.rules.specs.Reports.{Told, Printed};
+ghost use Rattle.rules.specs.meaning.Reports.{Told, Printed};
 
 // The report of an input at the front of the buffer. Refused with 12 where the input is over 32,768 bytes, then with 13 where the buffer has not the
 // room that every report of so long an input fits; on either nothing is written.

@@ -8,7 +8,7 @@ use rules::Run;
 use sites::act;
 ghost use Prim.Native.Nat.{_≤_};
 ghost use lib.ListN.{length};
-ghost use Rattle.rules.specs.Reports.{reportOf, reportRoom, inputLimit};
+ghost use Rattle.rules.specs.meaning.Reports.{reportOf, reportRoom, inputLimit};
 ghost use Rattle.report.specs.Laid.{Laid};
 
 // The whole report, at the front of a buffer that has room for it. The run stands in locals and is lent to each step. It begins fresh and steps alone

@@ -4,8 +4,8 @@ use lines::write_text;
 ghost use Prim.Native.Nat.{_+_, _≤_};
 ghost use mathlib.Core.List.{[], _∷_, _++_};
 ghost use lib.ListN.{length};
-ghost use Rattle.rules.specs.Number.{digits};
-ghost use Rattle.rules.specs.Reports.{lineEnd, countLine};
+ghost use Rattle.rules.specs.meaning.Number.{digits};
+ghost use Rattle.rules.specs.meaning.Reports.{lineEnd, countLine};
 ghost use Rattle.report.specs.Laid.{Laid};
 
 // A name and the number behind it.

@@ -8,8 +8,8 @@ ghost use Prim.Native.Nat.{_+_, _≤_};
 ghost use mathlib.Core.Bool.{cond};
 ghost use mathlib.Core.Path.{_≡_};
 ghost use lib.ListN.{length};
-ghost use Rattle.rules.specs.Lengths.{listed};
-ghost use Rattle.rules.specs.Reports.{refusedLine, queryLine, lineBy};
+ghost use Rattle.rules.specs.meaning.Lengths.{listed};
+ghost use Rattle.rules.specs.meaning.Reports.{refusedLine, queryLine, lineBy};
 ghost use Rattle.report.specs.Laid.{Laid};
 
 // "a line for each refused step (input line counted from 1, number)"

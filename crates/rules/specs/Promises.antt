@@ -15,30 +15,28 @@ use Rattle.rules.specs.declared.Step.the-variants.{Add, Remove, Query, S
 use Rattle.rules.specs.declared.Line.the-variants.{Numbers}
 use Rattle.rules.specs.declared.Named.{Named}
 use Rattle.rules.specs.declared.Named.the-variants.{Is}
-use Rattle.rules.specs.Lengths.{listed, afterAdd, afterRemove, join}
-use Rattle.rules.specs.Table.{lengthOf, rises}
-use Rattle.rules.specs.Parcels.{waiting}
-use Rattle.rules.specs.Runs.{State, tableAt, sightOf, refusalOf, valueOf, answerOf, after, freshRefusal, afterFresh, Stepped, Freshened}
-use Rattle.rules.specs.Histories.{ran, siteIn, isSend, isAgain, isDeliver, isLose, acceptedOf, parcelAt, absorbed, largest, samePairs, offered, distinct}
-use Rattle.rules.specs.Lines.{textOf, namesStep, numbersOf}
-use Rattle.rules.specs.StepLines.{lineOf, stepOf}
-use Rattle.rules.specs.StepLineLaws.{Fits}
-use Rattle.rules.specs.Calls.{namedAnswer, Called}
-use Rattle.rules.specs.Bursts.{asksOf, stepsIn, Handled}
-use Rattle.rules.specs.Members.{Answered}
-use Rattle.rules.specs.Writing.{Filled}
-use Rattle.rules.specs.Reports.{Told, Printed}
-use Rattle.rules.specs.RunLaws as RunLaws
-use Rattle.rules.specs.Figure4.{lengthIn}
-use Rattle.rules.specs.Figure4 as Figure4
-use Rattle.rules.specs.Rising as Rising
-use Rattle.rules.specs.Counting as Counting
-use Rattle.rules.specs.Absorbing as Absorbing
-use Rattle.rules.specs.Room as Room
-use Rattle.rules.specs.LineLaws as LineLaws
-use Rattle.rules.specs.StepLineLaws as StepLineLaws
-use Rattle.rules.specs.BurstLaws as BurstLaws
-use Rattle.rules.specs.Determined as Determined
+use Rattle.rules.specs.meaning.Lengths.{listed, afterAdd, afterRemove, join}
+use Rattle.rules.specs.meaning.Table.{lengthOf, rises}
+use Rattle.rules.specs.meaning.Parcels.{waiting}
+use Rattle.rules.specs.meaning.Runs.{State, tableAt, sightOf, refusalOf, valueOf, answerOf, after, freshRefusal, afterFresh, Stepped, Freshened}
+use Rattle.rules.specs.meaning.Histories.{ran, siteIn, isSend, isAgain, isDeliver, isLose, acceptedOf, parcelAt, absorbed, largest, samePairs, offered, distinct, lengthIn}
+use Rattle.rules.specs.meaning.Lines.{textOf, namesStep, numbersOf}
+use Rattle.rules.specs.meaning.StepLines.{lineOf, stepOf, Fits}
+use Rattle.rules.specs.meaning.Calls.{namedAnswer, Called}
+use Rattle.rules.specs.meaning.Bursts.{asksOf, stepsIn, Handled}
+use Rattle.rules.specs.meaning.Members.{Answered}
+use Rattle.rules.specs.meaning.Writing.{Filled}
+use Rattle.rules.specs.meaning.Reports.{Told, Printed}
+use Rattle.rules.specs.laws.run.Steps as RunLaws
+use Rattle.rules.specs.laws.history.Figure4 as Figure4
+use Rattle.rules.specs.laws.history.Rising as Rising
+use Rattle.rules.specs.laws.history.Counting as Counting
+use Rattle.rules.specs.laws.history.Absorbing as Absorbing
+use Rattle.rules.specs.laws.history.Room as Room
+use Rattle.rules.specs.laws.line.Lines as LineLaws
+use Rattle.rules.specs.laws.line.Steps as StepLineLaws
+use Rattle.rules.specs.laws.run.Bursts as BurstLaws
+use Rattle.rules.specs.laws.Determined as Determined
 
 -- ---- demand 1
 -- "Bad input gets the listed refusal, with nothing written": a refused step answers its number with 0, and leaves the state as it is

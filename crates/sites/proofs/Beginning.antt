@@ -9,7 +9,7 @@ use mathlib.Core.List.{List, [], _∷_, _++_}
 use lib.ListN.{length, take, set, replicate}
 use lib.Seq.{take-suc-set, take-all}
 use Rattle.rules.specs.declared.Run.{Run}
-use Rattle.rules.specs.Runs.{sizesRight, firstGiven, freshRefusal}
+use Rattle.rules.specs.meaning.Runs.{sizesRight, firstGiven, freshRefusal}
 use Rattle.sites.specs.Verdicts.{freshWords}
 
 one-more : (i : ℕ) → _++_ {A = ℕ} (replicate i 0) (0 ∷ []) ≡ replicate (suc i) 0

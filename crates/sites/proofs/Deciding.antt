@@ -9,8 +9,8 @@ use lib.ListN.{length}
 use Rattle.rules.specs.declared.Run.{Run}
 use Rattle.rules.specs.declared.Sight.{Sight}
 use Rattle.rules.specs.declared.Step.{Step}
-use Rattle.rules.specs.Operations.{unlessRefused}
-use Rattle.rules.specs.Runs.{sizesRight, allSound, firstGiven, refusalIn, wordsIn}
+use Rattle.rules.specs.meaning.Operations.{unlessRefused}
+use Rattle.rules.specs.meaning.Runs.{sizesRight, allSound, firstGiven, refusalIn, wordsIn}
 use Rattle.sites.specs.Verdicts.{judgement, refusedVerdict, stepRefusal, stepVerdict, stepWords, verdictUnder, wordsUnder}
 
 module _ (run : Run) (ws : List ℕ) (si : Sight) where

@@ -10,14 +10,14 @@ use Rattle.rules.specs.declared.Run.{Run}
 use Rattle.rules.specs.declared.Answer.{Answer}
 use Rattle.rules.specs.declared.Sight.{Sight}
 use Rattle.rules.specs.declared.Step.the-variants.{Deliver}
-use Rattle.rules.specs.Lengths.{M}
-use Rattle.rules.specs.Table.{raised}
-use Rattle.rules.specs.Operations.{answer, raiseRefusal, raiseAnswer, raiseTable, absorbAnswer, absorbTable}
-use Rattle.rules.specs.Parcels.{noParcel}
-use Rattle.rules.specs.SlotLaws.{occupied-has}
-use Rattle.rules.specs.Ledgers.{absorbedCounter}
-use Rattle.rules.specs.Runs.{tableAt, withTable, firstGiven, nothingThere, noRoom, lengthDelivered, valueIn, wordsIn, placeIn, parcelIn, counterOf}
-use Rattle.rules.specs.RunLaws.{neither}
+use Rattle.rules.specs.meaning.Lengths.{M}
+use Rattle.rules.specs.meaning.Table.{raised}
+use Rattle.rules.specs.meaning.Operations.{answer, raiseRefusal, raiseAnswer, raiseTable, absorbAnswer, absorbTable}
+use Rattle.rules.specs.meaning.Parcels.{noParcel}
+use Rattle.rules.specs.laws.run.Slots.{occupied-has}
+use Rattle.rules.specs.meaning.Ledgers.{absorbedCounter}
+use Rattle.rules.specs.meaning.Runs.{tableAt, withTable, firstGiven, nothingThere, noRoom, lengthDelivered, valueIn, wordsIn, placeIn, parcelIn, counterOf}
+use Rattle.rules.specs.laws.run.Steps.{neither}
 use Rattle.sites.specs.Verdicts.{refusedVerdict, verdict, delivered, stepRefusal, stepVerdict, stepWords}
 use Rattle.sites.proofs.Tables.{kept}
 

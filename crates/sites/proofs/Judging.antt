@@ -11,11 +11,11 @@ use lib.ListN.{length, take, drop}
 use lib.Dec.{leb, eqb}
 use borrow.Author.Tests.{leb-true, eqb-true}
 use Rattle.rules.specs.declared.Run.{Run}
-use Rattle.rules.specs.Lengths.{M}
-use Rattle.rules.specs.Table.{sound}
-use Rattle.rules.specs.View.{parts}
-use Rattle.rules.specs.Runs.{width, sizesRight, tablesSound}
-use Rattle.rules.specs.Sites.{next-part}
+use Rattle.rules.specs.meaning.Lengths.{M}
+use Rattle.rules.specs.meaning.Table.{sound}
+use Rattle.rules.specs.laws.table.View.{parts}
+use Rattle.rules.specs.meaning.Runs.{width, sizesRight, tablesSound}
+use Rattle.rules.specs.laws.run.Sites.{next-part}
 use Rattle.sites.specs.Verdicts.{Sized}
 
 -- the words of a run are few

@@ -14,9 +14,9 @@ use Rattle.rules.specs.declared.Run.{Run}
 use Rattle.rules.specs.declared.Sight.{Sight}
 use Rattle.rules.specs.declared.Step.{Step}
 use Rattle.rules.specs.declared.Step.the-variants.{Merge}
-use Rattle.rules.specs.Table.{merged, rises}
-use Rattle.rules.specs.Operations.{mergeRefusal, mergeAnswer, mergeTable}
-use Rattle.rules.specs.Runs.{tableAt, withTable, firstGiven, valueIn, wordsIn, placeIn, parcelIn, counterOf}
+use Rattle.rules.specs.meaning.Table.{merged, rises}
+use Rattle.rules.specs.meaning.Operations.{mergeRefusal, mergeAnswer, mergeTable}
+use Rattle.rules.specs.meaning.Runs.{tableAt, withTable, firstGiven, valueIn, wordsIn, placeIn, parcelIn, counterOf}
 use Rattle.sites.specs.Verdicts.{tableVerdict, stepRefusal, stepVerdict, stepWords}
 use Rattle.sites.proofs.Tables.{table-verdict, table-words}
 

@@ -9,10 +9,10 @@ use Rattle.rules.specs.declared.Run.{Run}
 use Rattle.rules.specs.declared.Sight.{Sight}
 use Rattle.rules.specs.declared.Step.{Step}
 use Rattle.rules.specs.declared.Step.the-variants.{Add, Remove, Query}
-use Rattle.rules.specs.Lengths.{M, afterAdd, afterRemove}
-use Rattle.rules.specs.Table.{lengthOf, raised}
-use Rattle.rules.specs.Operations.{answer, raiseRefusal, raiseAnswer, raiseTable, addAnswer, addTable, removeRefusal, removedLength, removeAnswer, removeTable}
-use Rattle.rules.specs.Runs.{tableAt, withTable, firstGiven, lengthAdded, valueIn, wordsIn, placeIn, parcelIn, counterOf}
+use Rattle.rules.specs.meaning.Lengths.{M, afterAdd, afterRemove}
+use Rattle.rules.specs.meaning.Table.{lengthOf, raised}
+use Rattle.rules.specs.meaning.Operations.{answer, raiseRefusal, raiseAnswer, raiseTable, addAnswer, addTable, removeRefusal, removedLength, removeAnswer, removeTable}
+use Rattle.rules.specs.meaning.Runs.{tableAt, withTable, firstGiven, lengthAdded, valueIn, wordsIn, placeIn, parcelIn, counterOf}
 use Rattle.sites.specs.Verdicts.{tableVerdict, stepRefusal, stepVerdict, stepWords}
 use Rattle.sites.proofs.Tables.{table-verdict, table-words}
 

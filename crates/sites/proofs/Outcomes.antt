@@ -18,17 +18,17 @@ use Rattle.rules.specs.declared.Run.{Run}
 use Rattle.rules.specs.declared.Scan.{Scan}
 use Rattle.rules.specs.declared.Step.{Step}
 use Rattle.rules.specs.declared.Step.the-variants.{Add, Remove, Query, Send, Merge, Deliver, Again, Lose}
-use Rattle.rules.specs.View.{parts}
-use Rattle.rules.specs.Lengths.{M}
-use Rattle.rules.specs.Operations.{answer, unlessRefused}
-use Rattle.rules.specs.Ledgers.{raisedLedger, emptiedIf}
-use Rattle.rules.specs.LedgerLaws.{raised-none}
-use Rattle.rules.specs.Parcels.{noParcel, slotsSound, lowestFree, scanOf, cleared}
-use Rattle.rules.specs.Runs.{State, lent, width, tablesSound, allSound, slotOf, sightOf, refusalIn, valueIn, wordsIn, placeIn, parcelIn, refusalOf, valueOf, stateBy, after, freshRefusal, empty, afterFresh, Stepped, Freshened}
+use Rattle.rules.specs.laws.table.View.{parts}
+use Rattle.rules.specs.meaning.Lengths.{M}
+use Rattle.rules.specs.meaning.Operations.{answer, unlessRefused}
+use Rattle.rules.specs.meaning.Ledgers.{raisedLedger, emptiedIf}
+use Rattle.rules.specs.laws.run.Ledgers.{raised-none}
+use Rattle.rules.specs.meaning.Parcels.{noParcel, slotsSound, lowestFree, scanOf, cleared}
+use Rattle.rules.specs.meaning.Runs.{State, lent, width, tablesSound, allSound, slotOf, sightOf, refusalIn, valueIn, wordsIn, placeIn, parcelIn, refusalOf, valueOf, stateBy, after, freshRefusal, empty, afterFresh, Stepped, Freshened, StateSound}
 use Rattle.sites.specs.declared.verdict.Verdict.{Verdict}
-use Rattle.rules.specs.RunLaws.{StateSound, sound-judged}
+use Rattle.rules.specs.laws.run.Steps.{sound-judged}
 use Rattle.sites.specs.Verdicts.{Ready, seenAs, judgement, stepRefusal, stepVerdict, stepWords, verdictBy, needsSlot, lookedAt, verdictUnder, wordsUnder, answerIn, freshWords, slotsToClear}
-use Rattle.rules.specs.Acts.{judgedOf, answerUnder, afterUnder, Acted}
+use Rattle.rules.specs.meaning.Acts.{judgedOf, answerUnder, afterUnder, Acted}
 use Rattle.sites.proofs.Judging.{sized}
 use Rattle.sites.proofs.Deciding.{passed, refusal-judged}
 

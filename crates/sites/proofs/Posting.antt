@@ -11,11 +11,11 @@ use Rattle.rules.specs.declared.Parcel.{Parcel}
 use Rattle.rules.specs.declared.Sight.{Sight}
 use Rattle.rules.specs.declared.Step.{Step}
 use Rattle.rules.specs.declared.Step.the-variants.{Send, Again, Lose, Deliver}
-use Rattle.rules.specs.Lengths.{M}
-use Rattle.rules.specs.Table.{lengthOf}
-use Rattle.rules.specs.Parcels.{noParcel, isOccupied}
-use Rattle.rules.specs.Ledgers.{sentCounter, copiedCounter, lostCounter}
-use Rattle.rules.specs.Runs.{tableAt, firstGiven, nothingThere, noFreeSlot, valueIn, placeIn, parcelIn, counterOf}
+use Rattle.rules.specs.meaning.Lengths.{M}
+use Rattle.rules.specs.meaning.Table.{lengthOf}
+use Rattle.rules.specs.meaning.Parcels.{noParcel, isOccupied}
+use Rattle.rules.specs.meaning.Ledgers.{sentCounter, copiedCounter, lostCounter}
+use Rattle.rules.specs.meaning.Runs.{tableAt, firstGiven, nothingThere, noFreeSlot, valueIn, placeIn, parcelIn, counterOf}
 use Rattle.sites.specs.Verdicts.{refusedVerdict, posted, stepRefusal, stepVerdict}
 
 not-not : (b : Bool) → not (not b) ≡ b

@@ -13,13 +13,13 @@ use Rattle.rules.specs.declared.Answer.{Answer}
 use Rattle.rules.specs.declared.Parcel.{Parcel}
 use Rattle.rules.specs.declared.Sight.{Sight}
 use Rattle.rules.specs.declared.Step.{Step}
-use Rattle.rules.specs.Lengths.{M}
-use Rattle.rules.specs.Table.{SoundTable}
-use Rattle.rules.specs.Operations.{answer, unlessRefused}
-use Rattle.rules.specs.Parcels.{noParcel}
-use Rattle.rules.specs.Ledgers.{noCounter}
-use Rattle.rules.specs.Runs.{width, tableAt, withTable, tablesSound, valueIn, wordsIn, placeIn, parcelIn, counterOf}
-use Rattle.rules.specs.Sites.{part-fits, tables-at, with-own}
+use Rattle.rules.specs.meaning.Lengths.{M}
+use Rattle.rules.specs.meaning.Table.{SoundTable}
+use Rattle.rules.specs.meaning.Operations.{answer, unlessRefused}
+use Rattle.rules.specs.meaning.Parcels.{noParcel}
+use Rattle.rules.specs.meaning.Ledgers.{noCounter}
+use Rattle.rules.specs.meaning.Runs.{width, tableAt, withTable, tablesSound, valueIn, wordsIn, placeIn, parcelIn, counterOf}
+use Rattle.rules.specs.laws.run.Sites.{part-fits, tables-at, with-own}
 use Rattle.sites.specs.Verdicts.{Sized, Ready, verdict, tableVerdict, stepRefusal, stepVerdict, stepWords}
 
 module _ (run : Run) (ws : List ℕ) (ready : Ready run ws) (k : ℕ) (inside : k < run .sites) where

@@ -14,11 +14,11 @@ use Rattle.rules.specs.declared.Scan.{Scan}
 use Rattle.rules.specs.declared.Sight.{Sight}
 use Rattle.rules.specs.declared.Step.{Step}
 use Rattle.rules.specs.declared.Step.the-variants.{Add, Remove, Query, Send, Merge, Deliver, Again, Lose}
-use Rattle.rules.specs.Lengths.{M}
-use Rattle.rules.specs.Operations.{unlessRefused}
-use Rattle.rules.specs.Parcels.{noParcel}
-use Rattle.rules.specs.Ledgers.{noCounter, absorbedCounter}
-use Rattle.rules.specs.Runs.{width, tablesSound, noFreeSlot, firstGiven, _when_, judgeTests, stepTests, valueIn, wordsIn, placeIn, parcelIn, counterOf, freshRefusal}
+use Rattle.rules.specs.meaning.Lengths.{M}
+use Rattle.rules.specs.meaning.Operations.{unlessRefused}
+use Rattle.rules.specs.meaning.Parcels.{noParcel}
+use Rattle.rules.specs.meaning.Ledgers.{noCounter, absorbedCounter}
+use Rattle.rules.specs.meaning.Runs.{width, tablesSound, noFreeSlot, firstGiven, _when_, judgeTests, stepTests, valueIn, wordsIn, placeIn, parcelIn, counterOf, freshRefusal}
 use Rattle.sites.specs.declared.verdict.Verdict.{Verdict}
 
 -- nothing to change

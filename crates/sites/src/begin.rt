@@ -3,7 +3,7 @@ use crate::judge::sizes_right;
 use rules::Run;
 ghost use mathlib.Core.Path.{_≡_};
 ghost use lib.ListN.{length, replicate};
-ghost use Rattle.rules.specs.Runs.{freshRefusal};
+ghost use Rattle.rules.specs.meaning.Runs.{freshRefusal};
 ghost use Rattle.sites.specs.Verdicts.{freshWords, slotsToClear};
 
 fn zero_words(words: &mut [u64])

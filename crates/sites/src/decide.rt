@@ -16,7 +16,7 @@ use rules::Scan;
 use rules::Sight;
 use rules::Step;
 ghost use mathlib.Core.Path.{_≡_};
-ghost use Rattle.rules.specs.Runs.{slotOf};
+ghost use Rattle.rules.specs.meaning.Runs.{slotOf};
 ghost use Rattle.sites.specs.Verdicts.{Ready, needsSlot, lookedAt, verdictUnder, wordsUnder};
 
 // The slot that a step names. A step that names none reads slot 0, and makes nothing of it.

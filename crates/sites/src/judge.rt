@@ -7,9 +7,9 @@ use rules::Sight;
 ghost use mathlib.Core.Path.{_≡_};
 ghost use Prim.Native.Nat.{_*_, _≤_};
 ghost use lib.ListN.{length};
-ghost use Rattle.rules.specs.Lengths.{M};
-ghost use Rattle.rules.specs.Parcels.{noParcel};
-ghost use Rattle.rules.specs.Runs.{sizesRight, tablesSound, allSound};
+ghost use Rattle.rules.specs.meaning.Lengths.{M};
+ghost use Rattle.rules.specs.meaning.Parcels.{noParcel};
+ghost use Rattle.rules.specs.meaning.Runs.{sizesRight, tablesSound, allSound};
 ghost use Rattle.sites.specs.Verdicts.{Sized, seenAs, judgement};
 
 // Whether the sizes are within the ranges and the words are as many as the tables take.

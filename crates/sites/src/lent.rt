@@ -18,8 +18,8 @@ use rules::Ledger;
 use rules::Parcel;
 use rules::Run;
 use rules::Step;
-ghost use Rattle.rules.specs.Runs.{lent, Stepped, Freshened};
-ghost use Rattle.rules.specs.Acts.{Clear, Acted};
+ghost use Rattle.rules.specs.meaning.Runs.{lent, Stepped, Freshened};
+ghost use Rattle.rules.specs.meaning.Acts.{Clear, Acted};
 
 // One step in a state that is sound, or one that something has refused before. It judges nothing, and sees no more of the slots than the step needs:
 // the one that it names and, for a new parcel, those from `low` on up to the lowest free one. On a refusal the verdict names no counter and a slot that

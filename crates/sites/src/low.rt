@@ -3,7 +3,7 @@ use parcels::smaller;
 use rules::Answer;
 use rules::Step;
 ghost use mathlib.Core.Path.{_≡_};
-ghost use Rattle.rules.specs.Acts.{lowTaken, lowAfter};
+ghost use Rattle.rules.specs.meaning.Acts.{lowTaken, lowAfter};
 
 // A new parcel took the lowest free slot, whose number is the answer; a parcel that left freed its own.
 fn low_taken(low: usize, step: Step, value: u64) -> usize

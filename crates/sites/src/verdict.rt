@@ -3,7 +3,7 @@ use rules::Answer;
 use rules::Parcel;
 use rules::Sight;
 ghost use mathlib.Core.Path.{_≡_};
-ghost use Rattle.rules.specs.Parcels.{noParcel};
+ghost use Rattle.rules.specs.meaning.Parcels.{noParcel};
 ghost use Rattle.sites.specs.Verdicts.{refusedVerdict, tableVerdict};
 
 // A slot number past the last slot sets nothing, and counter 0 raises nothing.

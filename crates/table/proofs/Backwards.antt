@@ -9,9 +9,9 @@ use mathlib.Core.Logic.{_⊎_, ⊎-elim, inl, inr}
 use mathlib.Core.List.{List}
 use lib.ListN.{length, getD}
 use lib.Seq.{ext-getD}
-use Rattle.rules.specs.Order.{lt-or-le}
-use Rattle.rules.specs.Table.{idAt, lengthAt, lengthOf, rank}
-use Rattle.rules.specs.Places.{Laid, lengthOf-at, placed, rank-is, rank-most, rank-under, rank-over, under-rank}
+use Rattle.rules.specs.laws.table.Order.{lt-or-le}
+use Rattle.rules.specs.meaning.Table.{idAt, lengthAt, lengthOf, rank}
+use Rattle.rules.specs.laws.table.Places.{Laid, lengthOf-at, placed, rank-is, rank-most, rank-under, rank-over, under-rank}
 use Rattle.table.specs.Loops.{entry}
 use Rattle.table.proofs.Pairs.{entry-length, entry-other, entry-id, entry-length-at, agree-below, agree-from}
 

@@ -11,11 +11,11 @@ use lib.ListN.{length, getD, drop, length-drop}
 use lib.Seq.{getD-drop}
 use lib.Dec.{eqb, ltb}
 use borrow.Author.Tests.{lt-ltb, eq-eqb, ne-eqb}
-use Rattle.rules.specs.LengthLaws.{odd-listed, even-listed}
-use Rattle.rules.specs.Table.{idAt, lengthAt, lengthOf, shown, newIds, rises, heldMerged}
-use Rattle.rules.specs.Order.{Side, Side.below, Side.same, Side.above, side}
-use Rattle.rules.specs.View.{Unused, Unused.none, Unused.pair}
-use Rattle.rules.specs.Places.{Laid, unused-by, lengthOf-at, lengthOf-none}
+use Rattle.rules.specs.laws.Lengths.{odd-listed, even-listed}
+use Rattle.rules.specs.meaning.Table.{idAt, lengthAt, lengthOf, shown, newIds, rises, heldMerged}
+use Rattle.rules.specs.laws.table.Order.{Side, Side.below, Side.same, Side.above, side}
+use Rattle.rules.specs.laws.table.View.{Unused, Unused.none, Unused.pair}
+use Rattle.rules.specs.laws.table.Places.{Laid, unused-by, lengthOf-at, lengthOf-none}
 use Rattle.table.proofs.Pairs.{from-place}
 
 -- ---- the entries that are listed

@@ -13,9 +13,9 @@ use lib.Seq.{drop-cons, getD-drop}
 use lib.Bits.{bitOr, or-zero-l, or-add-and, and-le-r}
 use lib.Dec.{leb, ltb, eqb}
 use borrow.Author.Tests.{lt-ltb, le-leb, eq-eqb, ne-eqb, ltb-true, leb-true, eqb-true, eqb-false, not-true}
-use Rattle.rules.specs.Table.{idAt, lengthAt, sound, held}
-use Rattle.rules.specs.View.{parts}
-use Rattle.rules.specs.Places.{Laid, laid-of, sound-laid, rises-by}
+use Rattle.rules.specs.meaning.Table.{idAt, lengthAt, sound, held}
+use Rattle.rules.specs.laws.table.View.{parts}
+use Rattle.rules.specs.laws.table.Places.{Laid, laid-of, sound-laid, rises-by}
 use Rattle.table.specs.Loops.{entriesGood, zeros}
 
 -- ---- the words after the entries

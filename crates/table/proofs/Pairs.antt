@@ -8,7 +8,7 @@ use mathlib.Core.Logic.{_⊎_, ⊎-elim, inl, inr}
 use mathlib.Core.List.{List, [], _∷_}
 use lib.ListN.{length, getD, set, drop, length-set}
 use lib.Seq.{getD-set-same, getD-set-other, drop-cons}
-use Rattle.rules.specs.Table.{idAt, lengthAt}
+use Rattle.rules.specs.meaning.Table.{idAt, lengthAt}
 use Rattle.table.specs.Loops.{entry}
 
 module _ (u : List ℕ) (i x n : ℕ) where

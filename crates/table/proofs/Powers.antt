@@ -11,8 +11,8 @@ use lib.Dec.{leb, eqb}
 use lib.Count.{leadingZeros, leading-top}
 use lib.Pow.{shl-exact}
 use mir.Val.{boolByte}
-use Rattle.rules.specs.Table.{idAt, lengthAt}
-use Rattle.rules.specs.Places.{Laid}
+use Rattle.rules.specs.meaning.Table.{idAt, lengthAt}
+use Rattle.rules.specs.laws.table.Places.{Laid}
 use Rattle.table.specs.Loops.{Span}
 use Rattle.table.proofs.Search.{span-start, span-up, span-stay}
 

@@ -13,15 +13,15 @@ use borrow.Author.Tests.{lt-ltb, le-ltb, le-leb, lt-leb}
 use Rattle.rules.specs.declared.Answer.{Answer}
 use Rattle.rules.specs.declared.Found.{Found}
 use Rattle.rules.specs.declared.Found.the-variants.{At, Absent}
-use Rattle.rules.specs.Lengths.{M, afterRemove}
-use Rattle.rules.specs.LengthLaws.{remove-none, remove-rises}
-use Rattle.rules.specs.Table.{SoundTable, capacity, lengthAt, lengthOf, held, foundOf, raised, heldWith}
-use Rattle.rules.specs.Operations.{accepted, outOfRoom, crowded, answer, unlessRefused, lengthRefusal, raiseAnswer, raiseTable, removedLength, removeRefusal, removeAnswer, removeTable}
-use Rattle.rules.specs.Order.{lt-or-le}
-use Rattle.rules.specs.Update.{held-with, fitting-here}
-use Rattle.rules.specs.Places.{Laid, laid-of, at-found, none-found}
-use Rattle.rules.specs.Insert.{raised-set}
-use Rattle.rules.specs.OperationLaws.{raise-refused, raise-accepted}
+use Rattle.rules.specs.meaning.Lengths.{M, afterRemove}
+use Rattle.rules.specs.laws.Lengths.{remove-none, remove-rises}
+use Rattle.rules.specs.meaning.Table.{SoundTable, capacity, lengthAt, lengthOf, held, foundOf, raised, heldWith}
+use Rattle.rules.specs.meaning.Operations.{accepted, outOfRoom, crowded, answer, unlessRefused, lengthRefusal, raiseAnswer, raiseTable, removedLength, removeRefusal, removeAnswer, removeTable}
+use Rattle.rules.specs.laws.table.Order.{lt-or-le}
+use Rattle.rules.specs.laws.table.Update.{held-with, fitting-here}
+use Rattle.rules.specs.laws.table.Places.{Laid, laid-of, at-found, none-found}
+use Rattle.rules.specs.laws.table.Insert.{raised-set}
+use Rattle.rules.specs.laws.table.Operations.{raise-refused, raise-accepted}
 
 -- ---- the id stands at place i
 module _ (t : List ℕ) (e i : ℕ) (ok : SoundTable t) (found : foundOf t e ≡ At i) where

@@ -13,10 +13,10 @@ use mir.Val.{boolByte}
 use borrow.Author.Tests.{le-leb, eq-eqb, ne-eqb, leb-true, leb-false, ltb-true, ltb-false, eqb-true, eqb-false, not-true}
 use Rattle.rules.specs.declared.Found.{Found}
 use Rattle.rules.specs.declared.Found.the-variants.{At, Absent}
-use Rattle.rules.specs.Order.{Side, Side.below, Side.same, Side.above, side}
-use Rattle.rules.specs.Table.{idAt, lengthAt, rank, foundOf}
-use Rattle.rules.specs.Places.{Laid, rank-is, used-at, found-at, found-none}
-use Rattle.rules.specs.View.{parts}
+use Rattle.rules.specs.laws.table.Order.{Side, Side.below, Side.same, Side.above, side}
+use Rattle.rules.specs.meaning.Table.{idAt, lengthAt, rank, foundOf}
+use Rattle.rules.specs.laws.table.Places.{Laid, rank-is, used-at, found-at, found-none}
+use Rattle.rules.specs.laws.table.View.{parts}
 use Rattle.table.specs.Loops.{Span}
 
 -- a test of a length and a test of an id, failed together

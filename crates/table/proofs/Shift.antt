@@ -8,11 +8,11 @@ use mathlib.Core.Logic.{⊎-elim}
 use mathlib.Core.List.{List, [], _++_, append-nil}
 use lib.ListN.{length, getD, set, take, drop, length-set, length-drop, length-append, List·getD-append}
 use lib.Seq.{getD-set-same, getD-set-other, ext-getD, length-take-le, take-all, drop-drop, drop-length, getD-append-add, getD-take, getD-drop}
-use Rattle.rules.specs.Update.{raised-length}
-use Rattle.rules.specs.Order.{lt-or-le}
-use Rattle.rules.specs.Table.{idAt, lengthAt, lengthOf, rank, raised}
-use Rattle.rules.specs.Places.{Laid, lengthOf-at, rank-most, rank-under, rank-over}
-use Rattle.rules.specs.Insert.{raised-laid, raised-below, raised-above, raised-at}
+use Rattle.rules.specs.laws.table.Update.{raised-length}
+use Rattle.rules.specs.laws.table.Order.{lt-or-le}
+use Rattle.rules.specs.meaning.Table.{idAt, lengthAt, lengthOf, rank, raised}
+use Rattle.rules.specs.laws.table.Places.{Laid, lengthOf-at, rank-most, rank-under, rank-over}
+use Rattle.rules.specs.laws.table.Insert.{raised-laid, raised-below, raised-above, raised-at}
 use Rattle.table.specs.Loops.{Moved, entry}
 use Rattle.table.proofs.Pairs.{entry-length, entry-other, entry-id, entry-length-at, place-of, agree-below, agree-from}
 

@@ -6,7 +6,7 @@ use mathlib.Core.Path.{_≡_}
 use mathlib.Core.List.{List, [], _∷_}
 use lib.ListN.{length, getD, drop, set}
 use lib.Dec.{leb, ltb, eqb}
-use Rattle.rules.specs.Table.{idAt, lengthAt}
+use Rattle.rules.specs.meaning.Table.{idAt, lengthAt}
 
 -- the first k entries: each length 1 to `most`, each id above the one before
 unfoldable pub entriesGood : ℕ → List ℕ → ℕ → Bool

@@ -5,7 +5,7 @@ ghost use mathlib.Core.Bool.{not, _&&_};
 ghost use Prim.Native.Nat.{_+_, _*_, _^_, _≤_, _<_};
 ghost use lib.Dec.{leb, eqb};
 ghost use lib.ListN.{length};
-ghost use Rattle.rules.specs.Table.{SoundTable, held, rank, foundOf, lengthOf, idAt, lengthAt};
+ghost use Rattle.rules.specs.meaning.Table.{SoundTable, held, rank, foundOf, lengthOf, idAt, lengthAt};
 ghost use Rattle.table.specs.Loops.{Span};
 
 // The exponent of a power of two that is within the number and at least half of it.

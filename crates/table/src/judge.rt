@@ -3,8 +3,8 @@ use rules::M;
 ghost use mathlib.Core.Path.{_≡_};
 ghost use Prim.Native.Nat.{_*_, _≤_};
 ghost use lib.ListN.{length};
-ghost use Rattle.rules.specs.Lengths.{M};
-ghost use Rattle.rules.specs.Table.{SoundTable, sound, held, shown};
+ghost use Rattle.rules.specs.meaning.Lengths.{M};
+ghost use Rattle.rules.specs.meaning.Table.{SoundTable, sound, held, shown};
 ghost use Rattle.table.specs.Loops.{entriesGood, allZero};
 
 // A number of entries: those in use where the words are a sound table, and some number where they are not.

@@ -8,8 +8,8 @@ ghost use Prim.Native.Nat.{_+_, _*_, _≤_};
 ghost use mathlib.Core.Bool.{cond};
 ghost use lib.Dec.{ltb};
 ghost use lib.ListN.{length as size};
-ghost use Rattle.rules.specs.Table.{SoundTable, merged, heldMerged, rises};
-ghost use Rattle.rules.specs.Operations.{mergeAnswer, mergeTable};
+ghost use Rattle.rules.specs.meaning.Table.{SoundTable, merged, heldMerged, rises};
+ghost use Rattle.rules.specs.meaning.Operations.{mergeAnswer, mergeTable};
 
 // What a merge comes to: the entries that the table ends with, and the lengths that rise.
 struct Tally {

@@ -12,9 +12,9 @@ use rules::Found;
 ghost use mathlib.Core.Path.{_≡_};
 ghost use Prim.Native.Nat.{_+_, _*_, _≤_};
 ghost use lib.ListN.{length as size};
-ghost use Rattle.rules.specs.Lengths.{M, join};
-ghost use Rattle.rules.specs.Table.{SoundTable, held, lengthOf, heldWith, raised};
-ghost use Rattle.rules.specs.Operations.{crowded, raiseAnswer, raiseTable, addAnswer, addTable, absorbAnswer, absorbTable, removeAnswer, removeTable};
+ghost use Rattle.rules.specs.meaning.Lengths.{M, join};
+ghost use Rattle.rules.specs.meaning.Table.{SoundTable, held, lengthOf, heldWith, raised};
+ghost use Rattle.rules.specs.meaning.Operations.{crowded, raiseAnswer, raiseTable, addAnswer, addTable, absorbAnswer, absorbTable, removeAnswer, removeTable};
 
 // An id without an entry is given one: the entries with larger ids move on by one place.
 fn insert(table: &mut [u64], used: usize, id: u64, length: u64)

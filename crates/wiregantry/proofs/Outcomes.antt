@@ -6,9 +6,9 @@ use Rattle.rules.specs.declared.Run.{Run}
 use Rattle.rules.specs.declared.Step.{Step}
 use Rattle.rules.specs.declared.Named.{Named}
 use Rattle.rules.specs.declared.Named.the-variants.{Is, NoStep}
-use Rattle.rules.specs.Runs.{State, Stepped}
-use Rattle.rules.specs.StepLines.{stepFor}
-use Rattle.rules.specs.Calls.{Called, namedAnswer, namedAfter}
+use Rattle.rules.specs.meaning.Runs.{State, Stepped}
+use Rattle.rules.specs.meaning.StepLines.{stepFor}
+use Rattle.rules.specs.meaning.Calls.{Called, namedAnswer, namedAfter}
 
 -- the two cases of what is named, each with its equation: nothing that is known of n is lost
 pub by-name : {X : Type 1} (n : Named) → ((s : Step) → n ≡ Is s → X) → (n ≡ NoStep → X) → X

@@ -6,13 +6,13 @@ use rules::Named;
 use rules::Parcel;
 use rules::Run;
 ghost use mathlib.Core.Path.{_≡_};
-ghost use Rattle.rules.specs.Area.{readRefusal, areaAfter};
-ghost use Rattle.rules.specs.Bursts.{Handled};
-ghost use Rattle.rules.specs.Calls.{Called};
-ghost use Rattle.rules.specs.Members.{Answered};
-ghost use Rattle.rules.specs.Reports.{Told};
-ghost use Rattle.rules.specs.Runs.{lent, Freshened};
-ghost use Rattle.rules.specs.Writing.{checkOf, Filled};
+ghost use Rattle.rules.specs.meaning.Area.{readRefusal, areaAfter};
+ghost use Rattle.rules.specs.meaning.Bursts.{Handled};
+ghost use Rattle.rules.specs.meaning.Calls.{Called};
+ghost use Rattle.rules.specs.meaning.Members.{Answered};
+ghost use Rattle.rules.specs.meaning.Reports.{Told};
+ghost use Rattle.rules.specs.meaning.Runs.{lent, Freshened};
+ghost use Rattle.rules.specs.meaning.Writing.{checkOf, Filled};
 
 // A fresh run of these sizes: "every word, slot and counter 0".
 #[no_mangle]

@@ -41,7 +41,7 @@ use Rattle.rules.specs.declared.Parcel.{Parcel}
 use Rattle.rules.specs.declared.Answer.{Answer}
 use Rattle.rules.specs.declared.Run.{Run}
 use Rattle.rules.specs.declared.Step.{Step}
-use Rattle.rules.specs.Runs.{Stepped}
+use Rattle.rules.specs.meaning.Runs.{Stepped}
 use Rattle.kept.specs.declared.Kept.{Kept}
 use Rattle.kept.specs.declared.Moved.{Moved}
 use Rattle.kept.specs.Kept.{keptState}

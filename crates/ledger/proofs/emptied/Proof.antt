@@ -1,6 +1,6 @@
 -- `ledger::emptied`: by whether it is wanted.
 -- Assumes nothing.
-use Rattle.rules.specs.Ledgers.{emptiedIf}
+use Rattle.rules.specs.meaning.Ledgers.{emptiedIf}
 use Rattle.ledger.proofs.emptied.Statement.{statement}
 use Rattle.ledger.proofs.emptied.Tie as tie
 

@@ -4,8 +4,8 @@ use native.Mathlib.Numerals.{add-one}
 use native.Mathlib.Omega.{arith}
 use borrow.Author.Needs.{needs}
 use borrow.Author.Tests.{lt-ltb, le-ltb}
-use Rattle.rules.specs.Lengths.{M}
-use Rattle.rules.specs.Ledgers.{oneMore}
+use Rattle.rules.specs.meaning.Lengths.{M}
+use Rattle.rules.specs.meaning.Ledgers.{oneMore}
 use Rattle.ledger.proofs.one_more.Statement.{statement}
 use Rattle.ledger.proofs.one_more.Tie as tie
 

@@ -35,8 +35,8 @@ use denote.Triple.Table.{entered, cited}
 use denote.Triple.Walked.{says, Stays, stay-none, stay-ref, walkOf, AllGo, goes-none, goes-ref, Walks, ends-at, walked, walk-meets}
 use denote.Exit.{yes}
 use Rattle.rules.specs.declared.Ledger.{Ledger}
-use Rattle.rules.specs.Ledgers.{raisedLedger}
-use Rattle.rules.specs.Lengths.{M as Most}
+use Rattle.rules.specs.meaning.Ledgers.{raisedLedger}
+use Rattle.rules.specs.meaning.Lengths.{M as Most}
 use Rattle.ledger.proofs.Lent.{ref, val, typed, told, is-at, unlocks, locks, holds}
 use Rattle.rules.proofs.Ledger as T
 use Rattle.rules.proofs.Ledger.Laws as T′

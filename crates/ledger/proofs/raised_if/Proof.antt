@@ -1,7 +1,7 @@
 -- `ledger::raised_if`: by whether the counter is the named one.
 -- Assumes nothing.
 use borrow.Author.Needs.{needs}
-use Rattle.rules.specs.Ledgers.{raisedIf}
+use Rattle.rules.specs.meaning.Ledgers.{raisedIf}
 use Rattle.ledger.proofs.raised_if.Statement.{statement}
 use Rattle.ledger.proofs.raised_if.Tie as tie
 

@@ -2,7 +2,7 @@
 -- Assumes nothing.
 use native.Mathlib.Omega.{arith}
 use borrow.Author.Needs.{needs}
-use Rattle.rules.specs.Lengths.{M}
+use Rattle.rules.specs.meaning.Lengths.{M}
 use Rattle.ledger.proofs.Judging.{too-many-sent, too-many-copied, too-many-absorbed, too-many-lost, more-back-than-out, weighed}
 use Rattle.ledger.proofs.sound.Statement.{statement}
 use Rattle.ledger.proofs.sound.Tie as tie

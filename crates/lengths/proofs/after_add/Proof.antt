@@ -2,7 +2,7 @@
 -- Assumes nothing.
 use native.Mathlib.Omega.{arith}
 use borrow.Author.Needs.{needs}
-use Rattle.rules.specs.LengthLaws.{odd-listed, even-listed, add-listed, add-unlisted}
+use Rattle.rules.specs.laws.Lengths.{odd-listed, even-listed, add-listed, add-unlisted}
 use Rattle.lengths.proofs.after_add.Statement.{statement}
 use Rattle.lengths.proofs.after_add.Tie as tie
 

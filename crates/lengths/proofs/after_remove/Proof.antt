@@ -5,9 +5,9 @@ use native.Mathlib.Numerals.{add-one}
 use native.Mathlib.Omega.{arith}
 use borrow.Author.Needs.{needs}
 use borrow.Author.Tests.{lt-ltb, le-ltb}
-use Rattle.rules.specs.Lengths.{M}
-use Rattle.rules.specs.LengthLaws.{odd-listed, even-listed, remove-listed, remove-unlisted}
-use Rattle.rules.specs.Operations.{removedLength}
+use Rattle.rules.specs.meaning.Lengths.{M}
+use Rattle.rules.specs.laws.Lengths.{odd-listed, even-listed, remove-listed, remove-unlisted}
+use Rattle.rules.specs.meaning.Operations.{removedLength}
 use Rattle.lengths.proofs.after_remove.Statement.{statement}
 use Rattle.lengths.proofs.after_remove.Tie as tie
 

@@ -1,7 +1,7 @@
 -- `lengths::listed`: the code is the definition.
 -- Assumes nothing.
 use borrow.Author.Needs.{needs}
-use Rattle.rules.specs.Lengths.{listed}
+use Rattle.rules.specs.meaning.Lengths.{listed}
 use Rattle.lengths.proofs.listed.Statement.{statement}
 use Rattle.lengths.proofs.listed.Tie as tie
 

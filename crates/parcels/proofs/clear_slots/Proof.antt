@@ -46,7 +46,7 @@ use denote.Triple.Table.{entered, cited}
 use denote.Triple.Walked.{says, Stays, stay-slice, stay-none, walkOf, Walks, ends-at, walked, goes-slice, goes-none, walk-meets}
 use borrow.Author.Tests.{ltb-true, ltb-false}
 use Rattle.rules.specs.declared.Parcel.{Parcel}
-use Rattle.rules.specs.Parcels.{noParcel, cleared}
+use Rattle.rules.specs.meaning.Parcels.{noParcel, cleared}
 use Rattle.parcels.specs.TurnLaws.{clear-none, clear-one, clear-all}
 use Rattle.rules.proofs.Parcel.Laws as P′
 use Rattle.parcels.proofs.Calls.{calls-value}

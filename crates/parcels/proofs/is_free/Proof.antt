@@ -1,7 +1,7 @@
 -- `parcels::is_free`: the code is the definition.
 -- Assumes nothing.
 use mathlib.Core.Path.{refl}
-use Rattle.rules.specs.Parcels.{isFree}
+use Rattle.rules.specs.meaning.Parcels.{isFree}
 use Rattle.parcels.proofs.is_free.Statement.{statement}
 use Rattle.parcels.proofs.is_free.Tie as tie
 

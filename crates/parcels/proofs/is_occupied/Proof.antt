@@ -1,7 +1,7 @@
 -- `parcels::is_occupied`: the code is the definition.
 -- Assumes nothing.
 use mathlib.Core.Path.{refl}
-use Rattle.rules.specs.Parcels.{isOccupied}
+use Rattle.rules.specs.meaning.Parcels.{isOccupied}
 use Rattle.parcels.proofs.is_occupied.Statement.{statement}
 use Rattle.parcels.proofs.is_occupied.Tie as tie
 

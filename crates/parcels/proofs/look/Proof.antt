@@ -4,7 +4,7 @@ use mathlib.Core.Path.{refl, sym, ap, _∙_}
 use mathlib.Core.Bool.{true, false, _&&_}
 use borrow.Author.Needs.{needs}
 use borrow.Author.Tests.{lt-ltb, le-ltb}
-use Rattle.rules.specs.Lengths.{M}
+use Rattle.rules.specs.meaning.Lengths.{M}
 use Rattle.parcels.specs.TurnLaws.{look-by}
 use Rattle.parcels.proofs.look.Statement.{statement}
 use Rattle.parcels.proofs.look.Tie as tie

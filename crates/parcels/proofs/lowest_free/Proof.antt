@@ -46,7 +46,7 @@ use denote.Triple.Table.{entered, cited}
 use denote.Triple.Walked.{says, needs, Stays, stay-none-slice, stay-none, walkOf, Walks, ends-at, walked, goes-none-slice, goes-none, walk-meets}
 use borrow.Author.Tests.{ltb-true}
 use Rattle.rules.specs.declared.Parcel.{Parcel}
-use Rattle.rules.specs.Parcels.{noParcel, isFree, lowestFree}
+use Rattle.rules.specs.meaning.Parcels.{noParcel, isFree, lowestFree}
 use Rattle.parcels.specs.SearchLaws.{found, find-first, find-next, find-last}
 use Rattle.rules.proofs.Parcel.Laws as P′
 use Rattle.parcels.proofs.Calls.{calls-value}

@@ -38,7 +38,7 @@ use denote.Triple.Spec.{Meets, tripleOf}
 use denote.Triple.Table.{entered}
 use denote.Triple.Walked.{says, Stays, stay-none-slice, stay-none, walkOf, Walks, ends-at, walked, goes-none-slice, goes-none, walk-meets}
 use Rattle.rules.specs.declared.Parcel.{Parcel}
-use Rattle.rules.specs.Parcels.{noParcel}
+use Rattle.rules.specs.meaning.Parcels.{noParcel}
 use Rattle.rules.proofs.Parcel.Laws as P′
 use Rattle.parcels.proofs.Slot.{R, val, vals, tells, makes, copies, typed, none-is, stride-fits, placed}
 use Rattle.parcels.proofs.read_slot.Key.{name as #parcels·read-slot}

@@ -47,8 +47,8 @@ use denote.Triple.Walked.{says, Stays, stay-none-slice, stay-none, walkOf, Walks
 use borrow.Author.Tests.{ltb-true, ltb-false}
 use Rattle.rules.specs.declared.Parcel.{Parcel}
 use Rattle.rules.specs.declared.Scan.{Scan}
-use Rattle.rules.specs.Lengths.{M as Most}
-use Rattle.rules.specs.Parcels.{noParcel, scanOf}
+use Rattle.rules.specs.meaning.Lengths.{M as Most}
+use Rattle.rules.specs.meaning.Parcels.{noParcel, scanOf}
 use Rattle.parcels.specs.Turns.{lookOf}
 use Rattle.parcels.specs.TurnLaws.{after, start, scanned, one-turn, all-seen, fewer}
 use Rattle.rules.proofs.Parcel.Laws as P′

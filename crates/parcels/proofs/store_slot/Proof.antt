@@ -40,7 +40,7 @@ use denote.Triple.Spec.{Meets, tripleOf}
 use denote.Triple.Table.{entered}
 use denote.Triple.Walked.{says, Stays, stay-slice, stay-none, walkOf, Walks, ends-at, walked, goes-slice, goes-none, walk-meets}
 use Rattle.rules.specs.declared.Parcel.{Parcel}
-use Rattle.rules.specs.Parcels.{noParcel}
+use Rattle.rules.specs.meaning.Parcels.{noParcel}
 use Rattle.rules.proofs.Parcel.Laws as P′
 use Rattle.parcels.proofs.Slot.{R, val, vals, tells, makes, typed, stride-fits, placed}
 use Rattle.parcels.proofs.store_slot.Key.{name as #parcels·store-slot}

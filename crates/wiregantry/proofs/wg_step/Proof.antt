@@ -44,9 +44,9 @@ use Rattle.rules.specs.declared.Ledger.{Ledger}
 use Rattle.rules.specs.declared.Named.the-variants.{Is as IsStep, NoStep}
 use Rattle.rules.specs.declared.Parcel.{Parcel}
 use Rattle.rules.specs.declared.Run.{Run}
-use Rattle.rules.specs.Calls.{Called}
-use Rattle.rules.specs.Runs.{lent}
-use Rattle.rules.specs.StepLines.{stepFor}
+use Rattle.rules.specs.meaning.Calls.{Called}
+use Rattle.rules.specs.meaning.Runs.{lent}
+use Rattle.rules.specs.meaning.StepLines.{stepFor}
 use Rattle.ledger.proofs.Lent.{ref, typed, told, is-at}
 use Rattle.parcels.proofs.Calls.{calls-value}
 use Rattle.wiregantry.proofs.Handed.{binds, else-runs, unlocks-uint, locks-uint, leaves-slice, leaves-ref, told-enum, is-enum}

@@ -5,8 +5,8 @@ use Prim.Native.Nat.{ℕ, suc, _+_, _-_, _≤_}
 use lib.Bits.{mask-lt}
 use lib.ListN.{length, length-set}
 use denote.Ref.{now}
-use Rattle.rules.specs.Area.{little}
-use Rattle.rules.specs.Put.{put}
+use Rattle.rules.specs.meaning.Area.{little}
+use Rattle.rules.specs.meaning.Put.{put}
 use Rattle.lines.proofs.Areas.{word-turn, word-done}
 use Rattle.lines.proofs.area.write_word.Statement.{statement}
 use Rattle.lines.proofs.area.write_word.Tie as tie

@@ -1,6 +1,6 @@
 -- `lines::kind::lead_len`: at each return the tests leave one kind, whose lead is counted. Assumes nothing.
 use native.Mathlib.Omega.{arith}
-use Rattle.rules.specs.Lines.{lead}
+use Rattle.rules.specs.meaning.Lines.{lead}
 use Rattle.lines.proofs.Leads.{same-len}
 use Rattle.lines.proofs.kind.lead_len.Statement.{statement}
 use Rattle.lines.proofs.kind.lead_len.Tie as tie

@@ -1,7 +1,7 @@
 -- `lines::kind::lead_text`: at each return the tests leave one kind, whose lead the text begins with. Assumes nothing.
 use native.Mathlib.Omega.{arith}
 use mathlib.Core.Path.{refl}
-use Rattle.rules.specs.Lines.{lead}
+use Rattle.rules.specs.meaning.Lines.{lead}
 use Rattle.lines.proofs.Leads.{same-text}
 use Rattle.lines.proofs.kind.lead_text.Statement.{statement}
 use Rattle.lines.proofs.kind.lead_text.Tie as tie

@@ -2,7 +2,7 @@
 use native.Mathlib.Omega.{arith}
 use mathlib.Core.Path.{sym, ap, _∙_}
 use lib.Seq.{length-take-le}
-use Rattle.rules.specs.LinePlaces.{textAt}
+use Rattle.rules.specs.laws.line.Places.{textAt}
 use Rattle.lines.proofs.Leads.{lead-is, kind-short, kind-found, kind-other}
 use borrow.Author.Needs.{needs}
 use Rattle.lines.proofs.kind.read_kind.Statement.{statement}

@@ -4,7 +4,7 @@ use mathlib.Core.Path.{sym, ap, _∙_}
 use lib.ListN.{length}
 use lib.Seq.{length-take-le}
 use denote.Ref.{now}
-use Rattle.rules.specs.Put.{put}
+use Rattle.rules.specs.meaning.Put.{put}
 use Rattle.lines.proofs.Leads.{lead-is}
 use borrow.Author.Needs.{needs}
 use Rattle.lines.proofs.kind.write_lead.Statement.{statement}

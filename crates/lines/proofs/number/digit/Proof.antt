@@ -1,7 +1,7 @@
 -- `lines::number::digit`: each return is one case of `digitOf`. Assumes nothing.
 use borrow.Author.Needs.{needs}
 use borrow.Author.Tests.{le-leb, lt-leb}
-use Rattle.rules.specs.Number.{digitOf}
+use Rattle.rules.specs.meaning.Number.{digitOf}
 use Rattle.lines.proofs.number.digit.Statement.{statement}
 use Rattle.lines.proofs.number.digit.Tie as tie
 

@@ -1,6 +1,6 @@
 -- `lines::number::is_fair`: each return is one case of `fair`; that the value fits 64 bits is known of any `u64`. Assumes nothing.
 use borrow.Author.Tests.{le-leb, lt-leb, eq-eqb, ne-eqb, lt-ltb}
-use Rattle.rules.specs.Number.{fair}
+use Rattle.rules.specs.meaning.Number.{fair}
 use Rattle.lines.proofs.number.is_fair.Statement.{statement}
 use Rattle.lines.proofs.number.is_fair.Tie as tie
 

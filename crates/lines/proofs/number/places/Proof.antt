@@ -3,8 +3,8 @@ use native.Mathlib.Omega.{arith}
 use mathlib.Core.Path.{_≡_}
 use Prim.Native.Nat.{_+_, _^_, _<_}
 use lib.ListN.{length}
-use Rattle.rules.specs.Number.{digits}
-use Rattle.rules.specs.NumberLaws.{digits-length, one-digit}
+use Rattle.rules.specs.meaning.Number.{digits}
+use Rattle.rules.specs.laws.line.Numbers.{digits-length, one-digit}
 use Rattle.lines.proofs.Counts.{two-digits, three-digits, four-digits, four-more}
 use Rattle.lines.proofs.number.places.Statement.{statement}
 use Rattle.lines.proofs.number.places.Tie as tie

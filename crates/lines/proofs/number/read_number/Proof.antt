@@ -5,9 +5,9 @@ use native.Mathlib.Omega.{arith}
 use mathlib.Core.Path.{_≡_, refl, sym, _∙_}
 use Prim.Native.Nat.{_-_, _^_, _≤_, _<_, max}
 use lib.ListN.{length, drop}
-use Rattle.rules.specs.Text.{front}
-use Rattle.rules.specs.Number.{digitRun}
-use Rattle.rules.specs.NumberLaws.{below}
+use Rattle.rules.specs.meaning.Text.{front}
+use Rattle.rules.specs.meaning.Number.{digitRun}
+use Rattle.rules.specs.laws.line.Numbers.{below}
 use mathlib.Core.Logic.{⊎-elim}
 use denote.Ref.{now}
 use Rattle.lines.proofs.Digits.{run-more, run-end, run-other, refuse-over, refuse-empty, accept, refuse-unfair}

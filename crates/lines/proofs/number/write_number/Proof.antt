@@ -7,8 +7,8 @@ use mathlib.Core.List.{_++_}
 use Prim.Native.Nat.{ℕ, _+_, _-_, _/_, _%_, _^_, _≤_, _<_}
 use lib.ListN.{length, take, drop, set, length-set}
 use denote.Ref.{now}
-use Rattle.rules.specs.Number.{digits}
-use Rattle.rules.specs.NumberLaws.{one-digit, digits-some}
+use Rattle.rules.specs.meaning.Number.{digits}
+use Rattle.rules.specs.laws.line.Numbers.{one-digit, digits-some}
 use Rattle.lines.proofs.Counts.{two-digits, two-more}
 use Rattle.lines.proofs.Spelling.{stored-two, spell-two, spell-last, spell-last-two, front-kept, front-kept-two, put-is}
 use Rattle.lines.proofs.number.write_number.Statement.{statement}

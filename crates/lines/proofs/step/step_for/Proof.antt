@@ -1,7 +1,7 @@
 -- `lines::step::step_for`: numbers that name no step, or the step of their kind. Assumes nothing.
 use mathlib.Core.Path.{sym, _∙_}
 use borrow.Author.Tests.{not-true, not-false}
-use Rattle.rules.specs.LineLaws.{step-says}
+use Rattle.rules.specs.laws.line.Lines.{step-says}
 use Rattle.lines.proofs.Steps.{step-none, step-is}
 use borrow.Author.Needs.{needs}
 use Rattle.lines.proofs.step.step_for.Statement.{statement}

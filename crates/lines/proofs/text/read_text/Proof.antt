@@ -3,7 +3,7 @@ use native.Mathlib.Omega.{arith}
 use mathlib.Core.Path.{_≡_, refl, sym, _∙_}
 use Prim.Native.Nat.{_-_, _≤_}
 use lib.ListN.{length, drop}
-use Rattle.rules.specs.Text.{behind}
+use Rattle.rules.specs.meaning.Text.{behind}
 use Rattle.lines.proofs.Pieces.{behind-turn, text-short, text-other, text-end}
 use Rattle.lines.proofs.text.read_text.Statement.{statement}
 use Rattle.lines.proofs.text.read_text.Tie as tie

@@ -2,7 +2,7 @@
 use native.Mathlib.Omega.{arith}
 use mathlib.Core.Path.{sym, _∙_}
 use borrow.Author.Tests.{not-true, not-false}
-use Rattle.rules.specs.LineLaws.{step-says}
+use Rattle.rules.specs.laws.line.Lines.{step-says}
 use Rattle.lines.proofs.Writings.{check-step, check-room, check-ok}
 use borrow.Author.Needs.{needs}
 use Rattle.lines.proofs.write.check_line.Statement.{statement}

@@ -2,9 +2,9 @@
 use native.Mathlib.Omega.{arith}
 use mathlib.Core.Path.{ap, _∙_}
 use denote.Ref.{now}
-use Rattle.rules.specs.Number.{digits}
-use Rattle.rules.specs.Lines.{lead, toName, idName, field}
-use Rattle.rules.specs.Put.{put}
+use Rattle.rules.specs.meaning.Number.{digits}
+use Rattle.rules.specs.meaning.Lines.{lead, toName, idName, field}
+use Rattle.rules.specs.meaning.Put.{put}
 use Rattle.lines.proofs.Fields.{used-length}
 use Rattle.lines.proofs.Writings.{line-length, put-four, four-line}
 use borrow.Author.Needs.{needs}

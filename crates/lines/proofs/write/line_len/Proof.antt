@@ -1,7 +1,7 @@
 -- `lines::write::line_len`: the lengths of the four pieces add up. Assumes nothing.
 use native.Mathlib.Omega.{arith}
 use mathlib.Core.Path.{refl}
-use Rattle.rules.specs.Lines.{toName, idName, hasSecond, hasId}
+use Rattle.rules.specs.meaning.Lines.{toName, idName, hasSecond, hasId}
 use Rattle.lines.proofs.Fields.{len-field}
 use Rattle.lines.proofs.Writings.{line-length}
 use borrow.Author.Needs.{needs}

@@ -1,7 +1,7 @@
 -- `lines::write::write_line`: `fill` says what the front of the buffer holds. Assumes nothing.
 use mathlib.Core.Path.{refl, sym, ap, _∙_}
 use lib.ListN.{length}
-use Rattle.rules.specs.Writing.{filled-part}
+use Rattle.rules.specs.laws.line.Writing.{filled-part}
 use borrow.Author.Needs.{needs}
 use Rattle.lines.proofs.write.write_line.Statement.{statement}
 use Rattle.lines.proofs.write.write_line.Tie as tie

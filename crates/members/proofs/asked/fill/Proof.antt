@@ -6,7 +6,7 @@ use denote.Ref.{now}
 use lib.ListN.{length}
 use native.Mathlib.Omega.{arith}
 use borrow.Author.Needs.{needs}
-use Rattle.rules.specs.Members.{bytesFor}
+use Rattle.rules.specs.meaning.Members.{bytesFor}
 use Rattle.members.proofs.Packing.{eightfold, Filled, filled-none, filled-more, filled-all}
 use Rattle.members.proofs.asked.fill.Statement.{statement}
 use Rattle.members.proofs.asked.fill.Tie as tie

@@ -2,7 +2,7 @@
 -- Assumes nothing.
 use mathlib.Core.Path.{_≡_, ap, _∙_}
 use borrow.Author.Needs.{needs}
-use Rattle.rules.specs.Lengths.{listed}
+use Rattle.rules.specs.meaning.Lengths.{listed}
 use Rattle.members.proofs.one.is_member.Statement.{statement}
 use Rattle.members.proofs.one.is_member.Tie as tie
 

@@ -8,7 +8,7 @@ use lib.ListN.{length, drop}
 use borrow.Author.Tests.{not-true, not-false}
 use Rattle.rules.specs.declared.Parcel.{Parcel}
 use Rattle.report.proofs.Counted.{waiting-from, waiting-end}
-use Rattle.rules.specs.Parcels.{waiting}
+use Rattle.rules.specs.meaning.Parcels.{waiting}
 use native.Mathlib.Omega.{arith}
 use borrow.Author.Needs.{needs}
 use Rattle.report.proofs.ends.count_waiting.Statement.{statement}

@@ -1,7 +1,7 @@
 -- `report::ends::write_ending`: the ledger, and the sites behind it. Assumes nothing.
 use denote.Ref.{now}
-use Rattle.rules.specs.Runs.{lent}
-use Rattle.rules.specs.Reports.{ledgerLines, siteLines, endLines}
+use Rattle.rules.specs.meaning.Runs.{lent}
+use Rattle.rules.specs.meaning.Reports.{ledgerLines, siteLines, endLines}
 use Rattle.report.proofs.Left.{left-all, left-room, left-next, left-fits, left-as, laid-last}
 use Rattle.report.proofs.Counted.{three-tables, end-pieces}
 use borrow.Author.Needs.{needs}

@@ -1,8 +1,8 @@
 -- `report::ends::write_ledger`: five lines. Assumes nothing.
 use mathlib.Core.List.{_++_}
 use denote.Ref.{now}
-use Rattle.rules.specs.Text.{ascii}
-use Rattle.rules.specs.Reports.{ledgerLines, countLine}
+use Rattle.rules.specs.meaning.Text.{ascii}
+use Rattle.rules.specs.meaning.Reports.{ledgerLines, countLine}
 use Rattle.report.proofs.Left.{left-all, left-room, left-next, left-fits, left-as, laid-last}
 use Rattle.report.proofs.Words.{ledger-pieces}
 use borrow.Author.Needs.{needs}

@@ -5,10 +5,10 @@ use mathlib.Core.List.{_++_}
 use Prim.Native.Nat.{_+_, _-_, _≤_}
 use lib.ListN.{length}
 use denote.Ref.{now}
-use Rattle.rules.specs.Table.{held}
-use Rattle.rules.specs.Put.{put}
-use Rattle.rules.specs.Text.{ascii}
-use Rattle.rules.specs.Reports.{countLine, siteLines}
+use Rattle.rules.specs.meaning.Table.{held}
+use Rattle.rules.specs.meaning.Put.{put}
+use Rattle.rules.specs.meaning.Text.{ascii}
+use Rattle.rules.specs.meaning.Reports.{countLine, siteLines}
 use Rattle.report.specs.Tables.{ThreeTables}
 use Rattle.report.proofs.Left.{Left, left-all, left-room, left-next, left-as, laid-none}
 use Rattle.report.proofs.Words.{pair}

@@ -52,12 +52,12 @@ use Rattle.rules.specs.declared.Answer.{Answer}
 use Rattle.rules.specs.declared.Ledger.{Ledger}
 use Rattle.rules.specs.declared.Parcel.{Parcel}
 use Rattle.rules.specs.declared.Run.{Run}
-use Rattle.rules.specs.Ledgers.{emptyLedger}
-use Rattle.rules.specs.Parcels.{noParcel}
-use Rattle.rules.specs.Put.{put}
-use Rattle.rules.specs.Runs.{State as Whole, lent}
-use Rattle.rules.specs.Acts.{Clear, Acted}
-use Rattle.rules.specs.Reports.{reportRun, inputLimit, reportRoom, lineBy, endLines, reportOf}
+use Rattle.rules.specs.meaning.Ledgers.{emptyLedger}
+use Rattle.rules.specs.meaning.Parcels.{noParcel}
+use Rattle.rules.specs.meaning.Put.{put}
+use Rattle.rules.specs.meaning.Runs.{State as Whole, lent}
+use Rattle.rules.specs.meaning.Acts.{Clear, Acted}
+use Rattle.rules.specs.meaning.Reports.{reportRun, inputLimit, reportRoom, lineBy, endLines, reportOf}
 use Rattle.report.specs.declared.ahead.Ahead.{Ahead}
 use Rattle.report.specs.Ahead.{Next}
 use Rattle.report.specs.Laid.{Laid}

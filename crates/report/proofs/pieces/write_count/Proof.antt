@@ -1,7 +1,7 @@
 -- `report::pieces::write_count`: a pair, and the line's end. Assumes nothing.
 use mathlib.Core.List.{[], _∷_}
 use denote.Ref.{now}
-use Rattle.rules.specs.Reports.{lineEnd, countLine}
+use Rattle.rules.specs.meaning.Reports.{lineEnd, countLine}
 use Rattle.report.proofs.Left.{left-all, left-room, left-next, left-fits, left-as, laid-last}
 use Rattle.report.proofs.Words.{pair, count-pieces}
 use borrow.Author.Needs.{needs}

@@ -1,7 +1,7 @@
 -- `report::pieces::write_pair`: the name, and the digits behind it. Assumes nothing.
 use mathlib.Core.List.{_++_}
 use denote.Ref.{now}
-use Rattle.rules.specs.Number.{digits}
+use Rattle.rules.specs.meaning.Number.{digits}
 use Rattle.report.proofs.Left.{left-all, left-room, left-next, left-fits, laid-last, laid-by}
 use borrow.Author.Needs.{needs}
 use Rattle.report.proofs.pieces.write_pair.Statement.{statement}

@@ -1,8 +1,8 @@
 -- `report::said::write_query`: four pairs, and the last pair. Assumes nothing.
 use mathlib.Core.List.{_++_}
 use denote.Ref.{now}
-use Rattle.rules.specs.Text.{ascii}
-use Rattle.rules.specs.Reports.{queryLine, countLine}
+use Rattle.rules.specs.meaning.Text.{ascii}
+use Rattle.rules.specs.meaning.Reports.{queryLine, countLine}
 use Rattle.report.proofs.Left.{left-all, left-room, left-next, left-fits, left-as, laid-last}
 use Rattle.report.proofs.Words.{pair, query-pieces}
 use borrow.Author.Needs.{needs}

@@ -1,7 +1,7 @@
 -- `report::said::write_refused`: a pair, and the last pair. Assumes nothing.
 use denote.Ref.{now}
-use Rattle.rules.specs.Text.{ascii}
-use Rattle.rules.specs.Reports.{refusedLine, countLine}
+use Rattle.rules.specs.meaning.Text.{ascii}
+use Rattle.rules.specs.meaning.Reports.{refusedLine, countLine}
 use Rattle.report.proofs.Left.{left-all, left-room, left-next, left-fits, left-as, laid-last}
 use Rattle.report.proofs.Words.{pair, refused-pieces}
 use borrow.Author.Needs.{needs}

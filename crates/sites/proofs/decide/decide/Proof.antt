@@ -5,7 +5,7 @@ use mathlib.Core.Path.{_≡_, refl, _∙_}
 use mathlib.Core.List.{List}
 use denote.Ref.{now}
 use Rattle.rules.specs.declared.Sight.{Sight}
-use Rattle.rules.specs.Runs.{wordsIn}
+use Rattle.rules.specs.meaning.Runs.{wordsIn}
 use Rattle.sites.specs.Verdicts.{Ready, lookedAt}
 use Rattle.sites.proofs.Deciding.{under-out, under-in, still-words}
 use borrow.Author.Needs.{needs}

@@ -1,7 +1,7 @@
 -- `sites::decide::slot_of`: step by step.
 -- Assumes nothing.
 use mathlib.Core.Path.{sym, ap}
-use Rattle.rules.specs.Runs.{slotOf}
+use Rattle.rules.specs.meaning.Runs.{slotOf}
 use borrow.Author.Needs.{needs}
 use Rattle.sites.proofs.decide.slot_of.Statement.{statement}
 use Rattle.sites.proofs.decide.slot_of.Tie as tie

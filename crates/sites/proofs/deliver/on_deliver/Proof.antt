@@ -8,10 +8,10 @@ use lib.ListN.{length}
 use denote.Ref.{now}
 use borrow.Author.Tests.{not-true, not-false}
 use Rattle.rules.specs.declared.Answer.{Answer}
-use Rattle.rules.specs.Lengths.{join}
-use Rattle.rules.specs.Table.{lengthOf, heldWith}
-use Rattle.rules.specs.Operations.{crowded, absorbAnswer, absorbTable}
-use Rattle.rules.specs.Runs.{nothingThere}
+use Rattle.rules.specs.meaning.Lengths.{join}
+use Rattle.rules.specs.meaning.Table.{lengthOf, heldWith}
+use Rattle.rules.specs.meaning.Operations.{crowded, absorbAnswer, absorbTable}
+use Rattle.rules.specs.meaning.Runs.{nothingThere}
 use Rattle.sites.specs.Verdicts.{delivered}
 use Rattle.sites.proofs.Delivering.{its-site, deliver-none, deliver-crowded, deliver-full, deliver-step}
 use Rattle.sites.proofs.Tables.{part-end, site-sound, part-is, told-of, put-of, refused-verdict, refused-words}

@@ -7,10 +7,10 @@ use lib.ListN.{length, take, drop}
 use denote.Ref.{now}
 use native.Mathlib.Nat.{zero-mul, suc-mul}
 use native.Mathlib.Numerals.{add-one}
-use Rattle.rules.specs.Lengths.{M}
-use Rattle.rules.specs.Table.{sound}
-use Rattle.rules.specs.Runs.{tablesSound}
-use Rattle.rules.specs.Sites.{part-fits}
+use Rattle.rules.specs.meaning.Lengths.{M}
+use Rattle.rules.specs.meaning.Table.{sound}
+use Rattle.rules.specs.meaning.Runs.{tablesSound}
+use Rattle.rules.specs.laws.run.Sites.{part-fits}
 use Rattle.sites.proofs.Judging.{tables-more, tables-end}
 use native.Mathlib.Omega.{arith}
 use borrow.Author.Needs.{needs}

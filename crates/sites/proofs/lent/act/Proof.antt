@@ -45,13 +45,13 @@ use Rattle.rules.specs.declared.Ledger.{Ledger}
 use Rattle.rules.specs.declared.Parcel.{Parcel}
 use Rattle.rules.specs.declared.Run.{Run}
 use Rattle.rules.specs.declared.Step.{Step}
-use Rattle.rules.specs.Lengths.{M as Most}
-use Rattle.rules.specs.Ledgers.{raisedLedger}
-use Rattle.rules.specs.Parcels.{noParcel, lowestFree}
+use Rattle.rules.specs.meaning.Lengths.{M as Most}
+use Rattle.rules.specs.meaning.Ledgers.{raisedLedger}
+use Rattle.rules.specs.meaning.Parcels.{noParcel, lowestFree}
 use Rattle.sites.specs.declared.verdict.Verdict.{Verdict}
-use Rattle.rules.specs.Runs.{lent, slotOf}
+use Rattle.rules.specs.meaning.Runs.{lent, slotOf}
 use Rattle.sites.specs.Verdicts.{needsSlot, lookedAt, verdictUnder, wordsUnder, answerIn}
-use Rattle.rules.specs.Acts.{Clear}
+use Rattle.rules.specs.meaning.Acts.{Clear}
 use Rattle.parcels.proofs.Calls.{calls-value}
 use Rattle.ledger.proofs.Lent.{ref, val, typed, told, is-at, unlocks, locks, holds}
 use Rattle.sites.proofs.Lending.{unit-typed, Kept, lends-out, takes-back}

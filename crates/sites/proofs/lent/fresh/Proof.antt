@@ -42,9 +42,9 @@ use denote.Exit.{yes}
 use Rattle.rules.specs.declared.Ledger.{Ledger}
 use Rattle.rules.specs.declared.Parcel.{Parcel}
 use Rattle.rules.specs.declared.Run.{Run}
-use Rattle.rules.specs.Ledgers.{emptiedIf}
-use Rattle.rules.specs.Parcels.{cleared}
-use Rattle.rules.specs.Runs.{freshRefusal}
+use Rattle.rules.specs.meaning.Ledgers.{emptiedIf}
+use Rattle.rules.specs.meaning.Parcels.{cleared}
+use Rattle.rules.specs.meaning.Runs.{freshRefusal}
 use Rattle.sites.specs.Verdicts.{freshWords, slotsToClear}
 use Rattle.ledger.proofs.Lent.{ref, val, typed, holds}
 use Rattle.sites.proofs.Lending.{unit-typed}

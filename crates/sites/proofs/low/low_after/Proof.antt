@@ -2,7 +2,7 @@
 -- Assumes nothing.
 use mathlib.Core.Path.{refl}
 use borrow.Author.Tests.{ne-eqb}
-use Rattle.rules.specs.Acts.{lowAfter}
+use Rattle.rules.specs.meaning.Acts.{lowAfter}
 use borrow.Author.Needs.{needs}
 use Rattle.sites.proofs.low.low_after.Statement.{statement}
 use Rattle.sites.proofs.low.low_after.Tie as tie

@@ -1,7 +1,7 @@
 -- `sites::low::low_taken`: step by step.
 -- Assumes nothing.
 use mathlib.Core.Path.{refl}
-use Rattle.rules.specs.Acts.{lowTaken}
+use Rattle.rules.specs.meaning.Acts.{lowTaken}
 use borrow.Author.Needs.{needs}
 use Rattle.sites.proofs.low.low_taken.Statement.{statement}
 use Rattle.sites.proofs.low.low_taken.Tie as tie

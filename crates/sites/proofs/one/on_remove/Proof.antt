@@ -6,9 +6,9 @@ use mathlib.Core.List.{List}
 use lib.ListN.{length}
 use denote.Ref.{now}
 use Rattle.rules.specs.declared.Answer.{Answer}
-use Rattle.rules.specs.Lengths.{M}
-use Rattle.rules.specs.Table.{SoundTable, lengthOf}
-use Rattle.rules.specs.Operations.{answer, addAnswer, addTable, removeAnswer, removeTable}
+use Rattle.rules.specs.meaning.Lengths.{M}
+use Rattle.rules.specs.meaning.Table.{SoundTable, lengthOf}
+use Rattle.rules.specs.meaning.Operations.{answer, addAnswer, addTable, removeAnswer, removeTable}
 use Rattle.sites.specs.Verdicts.{tableVerdict}
 use Rattle.sites.proofs.Tables.{part-end, site-sound, part-is, told-of, put-of, refused-verdict, refused-words}
 use Rattle.sites.proofs.OneTable.{remove-outside, remove-step}

@@ -2,7 +2,7 @@
 -- Assumes nothing.
 use Prim.Native.Nat.{_*_, _+_, _≤_}
 use mathlib.Core.Path.{_≡_, refl}
-use Rattle.rules.specs.Sites.{part-fits}
+use Rattle.rules.specs.laws.run.Sites.{part-fits}
 use Rattle.sites.proofs.Judging.{few-words}
 use native.Mathlib.Omega.{arith}
 use borrow.Author.Needs.{needs}

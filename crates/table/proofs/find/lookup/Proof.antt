@@ -1,8 +1,8 @@
 -- `table::find::lookup`: the id stands at the place where halving ends, or nowhere (`Span` of size 1).
 -- Assumes nothing.
 use mathlib.Core.Path.{sym}
-use Rattle.rules.specs.Lengths.{M}
-use Rattle.rules.specs.Places.{Laid, laid-of, found-none}
+use Rattle.rules.specs.meaning.Lengths.{M}
+use Rattle.rules.specs.laws.table.Places.{Laid, laid-of, found-none}
 use Rattle.table.proofs.Search.{span-found, span-none}
 use native.Mathlib.Omega.{arith}
 use borrow.Author.Needs.{needs}

@@ -3,9 +3,9 @@
 use Prim.Native.Nat.{_-_, _^_, _<_}
 use mathlib.Core.Path.{_≡_, sym, _∙_}
 use mathlib.Core.Logic.{⊎-elim}
-use Rattle.rules.specs.Lengths.{M}
-use Rattle.rules.specs.Table.{held}
-use Rattle.rules.specs.Places.{Laid, laid-of}
+use Rattle.rules.specs.meaning.Lengths.{M}
+use Rattle.rules.specs.meaning.Table.{held}
+use Rattle.rules.specs.laws.table.Places.{Laid, laid-of}
 use Rattle.table.specs.Loops.{Span}
 use Rattle.table.proofs.Powers.{one-shifted, bit-shifted, positive, bit-le, last, inside, first-up, first-stay, next}
 use native.Mathlib.Omega.{arith}

@@ -3,9 +3,9 @@
 use Prim.Native.Nat.{ℕ, _<_, _+_, _*_}
 use mathlib.Core.Path.{_≡_, sym, _∙_}
 use denote.Ref.{now}
-use Rattle.rules.specs.Lengths.{M}
-use Rattle.rules.specs.Table.{lengthAt, lengthOf}
-use Rattle.rules.specs.Places.{Laid, laid-of, at-found, none-found}
+use Rattle.rules.specs.meaning.Lengths.{M}
+use Rattle.rules.specs.meaning.Table.{lengthAt, lengthOf}
+use Rattle.rules.specs.laws.table.Places.{Laid, laid-of, at-found, none-found}
 use native.Mathlib.Omega.{arith}
 use borrow.Author.Needs.{needs}
 use Rattle.table.proofs.find.query.Statement.{statement}

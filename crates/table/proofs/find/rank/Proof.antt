@@ -1,8 +1,8 @@
 -- `table::find::rank`: one test tells whether the place where halving ends is before the id's (`span-rank`).
 -- Assumes nothing.
 use mathlib.Core.Path.{refl}
-use Rattle.rules.specs.Lengths.{M}
-use Rattle.rules.specs.Places.{Laid, laid-of, rank-most}
+use Rattle.rules.specs.meaning.Lengths.{M}
+use Rattle.rules.specs.laws.table.Places.{Laid, laid-of, rank-most}
 use Rattle.table.proofs.Search.{span-rank}
 use native.Mathlib.Omega.{arith}
 use borrow.Author.Needs.{needs}

@@ -2,8 +2,8 @@
 -- Assumes nothing.
 use Prim.Native.Nat.{ℕ, _≤_, _-_, _+_}
 use mathlib.Core.Path.{_≡_, refl}
-use Rattle.rules.specs.Lengths.{M}
-use Rattle.rules.specs.Table.{idAt}
+use Rattle.rules.specs.meaning.Lengths.{M}
+use Rattle.rules.specs.meaning.Table.{idAt}
 use Rattle.table.specs.Loops.{entriesGood}
 use Rattle.table.proofs.Judging.{good-more}
 use native.Mathlib.Omega.{arith}

@@ -5,7 +5,7 @@ use mathlib.Core.Path.{_≡_, refl, _∙_}
 use mathlib.Core.Logic.{⊎-elim}
 use lib.ListN.{length, drop}
 use denote.Ref.{now}
-use Rattle.rules.specs.Table.{shown}
+use Rattle.rules.specs.meaning.Table.{shown}
 use Rattle.table.proofs.Counting.{shown-more, shown-same, shown-end}
 use native.Mathlib.Omega.{arith}
 use borrow.Author.Needs.{needs}

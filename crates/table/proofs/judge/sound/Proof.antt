@@ -1,6 +1,6 @@
 -- `table::judge::sound`: the two loops decide, whatever number of entries `used` found (`judged`).
 -- Assumes nothing.
-use Rattle.rules.specs.Lengths.{M}
+use Rattle.rules.specs.meaning.Lengths.{M}
 use Rattle.table.proofs.Judging.{judged, unpaired}
 use native.Mathlib.Omega.{arith}
 use borrow.Author.Needs.{needs}

@@ -5,9 +5,9 @@ use mathlib.Core.Path.{_≡_}
 use mathlib.Core.Bool.{true}
 use mathlib.Core.Logic.{⊎-elim}
 use lib.ListN.{length, getD}
-use Rattle.rules.specs.Lengths.{M}
-use Rattle.rules.specs.Table.{SoundTable, held}
-use Rattle.rules.specs.Places.{Laid, laid-of, used-at, unused-at}
+use Rattle.rules.specs.meaning.Lengths.{M}
+use Rattle.rules.specs.meaning.Table.{SoundTable, held}
+use Rattle.rules.specs.laws.table.Places.{Laid, laid-of, used-at, unused-at}
 use native.Mathlib.Omega.{arith}
 use borrow.Author.Needs.{needs}
 use Rattle.table.proofs.judge.used.Statement.{statement}

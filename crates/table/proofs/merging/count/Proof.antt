@@ -2,9 +2,9 @@
 -- Assumes nothing.
 use Prim.Native.Nat.{ℕ, suc, _-_, _+_, _*_, _<_, _≤_}
 use mathlib.Core.Path.{_≡_, sym, _∙_}
-use Rattle.rules.specs.Lengths.{M}
-use Rattle.rules.specs.Table.{held}
-use Rattle.rules.specs.Places.{Laid, laid-of}
+use Rattle.rules.specs.meaning.Lengths.{M}
+use Rattle.rules.specs.meaning.Table.{held}
+use Rattle.rules.specs.laws.table.Places.{Laid, laid-of}
 use Rattle.table.proofs.Counting.{Walk, walk-start, walk-own, walk-both, walk-new, walk-end}
 use native.Mathlib.Omega.{arith}
 use borrow.Author.Needs.{needs}

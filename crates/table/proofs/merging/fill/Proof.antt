@@ -5,10 +5,10 @@ use mathlib.Core.Path.{_≡_, sym, _∙_}
 use mathlib.Core.Logic.{_⊎_, inl, inr}
 use mathlib.Core.List.{List}
 use denote.Ref.{now}
-use Rattle.rules.specs.Lengths.{M}
-use Rattle.rules.specs.Table.{held, merged}
-use Rattle.rules.specs.Places.{Laid, laid-of}
-use Rattle.rules.specs.Merge.{Merged, merged-of}
+use Rattle.rules.specs.meaning.Lengths.{M}
+use Rattle.rules.specs.meaning.Table.{held, merged}
+use Rattle.rules.specs.laws.table.Places.{Laid, laid-of}
+use Rattle.rules.specs.laws.table.Merge.{Merged, merged-of}
 use Rattle.table.proofs.Backwards.{Back, begin, turn-source, turn-own, turn-both, back-end}
 use native.Mathlib.Omega.{arith}
 use borrow.Author.Needs.{needs}

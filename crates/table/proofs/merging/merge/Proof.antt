@@ -4,9 +4,9 @@ use Prim.Native.Nat.{_≤_}
 use mathlib.Core.Path.{_≡_, sym, ap, _∙_}
 use lib.ListN.{length}
 use denote.Ref.{now}
-use Rattle.rules.specs.Lengths.{M}
-use Rattle.rules.specs.Merge.{still-room, still}
-use Rattle.rules.specs.OperationLaws.{merge-refused, merge-accepted}
+use Rattle.rules.specs.meaning.Lengths.{M}
+use Rattle.rules.specs.laws.table.Merge.{still-room, still}
+use Rattle.rules.specs.laws.table.Operations.{merge-refused, merge-accepted}
 use native.Mathlib.Omega.{arith}
 use borrow.Author.Needs.{needs}
 use Rattle.table.proofs.merging.merge.Statement.{statement}

@@ -6,8 +6,8 @@ use mathlib.Core.List.{List}
 use lib.ListN.{length}
 use denote.Ref.{now}
 use Rattle.rules.specs.declared.Found.the-variants.{At, Absent}
-use Rattle.rules.specs.Table.{foundOf, lengthOf}
-use Rattle.rules.specs.Lengths.{join}
+use Rattle.rules.specs.meaning.Table.{foundOf, lengthOf}
+use Rattle.rules.specs.meaning.Lengths.{join}
 use Rattle.table.proofs.Raising.{place, its, above-zero, raise-here, none, raise-none}
 use native.Mathlib.Omega.{arith}
 use borrow.Author.Needs.{needs}

@@ -6,10 +6,10 @@ use mathlib.Core.List.{List}
 use lib.ListN.{length}
 use denote.Ref.{now}
 use Rattle.rules.specs.declared.Found.the-variants.{At, Absent}
-use Rattle.rules.specs.Table.{foundOf, lengthOf}
-use Rattle.rules.specs.Lengths.{afterAdd}
-use Rattle.rules.specs.LengthLaws.{add-above-zero, add-none}
-use Rattle.rules.specs.Operations.{raiseAnswer, raiseTable}
+use Rattle.rules.specs.meaning.Table.{foundOf, lengthOf}
+use Rattle.rules.specs.meaning.Lengths.{afterAdd}
+use Rattle.rules.specs.laws.Lengths.{add-above-zero, add-none}
+use Rattle.rules.specs.meaning.Operations.{raiseAnswer, raiseTable}
 use Rattle.table.proofs.Raising.{place, its, raise-here, none}
 use native.Mathlib.Omega.{arith}
 use borrow.Author.Needs.{needs}

@@ -4,7 +4,7 @@ use Prim.Native.Nat.{_<_}
 use mathlib.Core.Path.{_≡_, _∙_}
 use lib.ListN.{length}
 use denote.Ref.{now}
-use Rattle.rules.specs.Table.{capacity, held}
+use Rattle.rules.specs.meaning.Table.{capacity, held}
 use Rattle.table.proofs.Raising.{enter-full, enter-roomy}
 use native.Mathlib.Omega.{arith}
 use borrow.Author.Needs.{needs}

@@ -5,10 +5,10 @@ use mathlib.Core.Path.{_≡_, _∙_}
 use lib.ListN.{length, length-take, length-drop}
 use borrow.Rule.Slice.PartMut.{putMid}
 use denote.Ref.{now}
-use Rattle.rules.specs.Lengths.{M}
-use Rattle.rules.specs.Table.{held}
-use Rattle.rules.specs.Law.{sound-wider}
-use Rattle.rules.specs.Places.{Laid, laid-of, rank-most}
+use Rattle.rules.specs.meaning.Lengths.{M}
+use Rattle.rules.specs.meaning.Table.{held}
+use Rattle.rules.specs.laws.table.Law.{sound-wider}
+use Rattle.rules.specs.laws.table.Places.{Laid, laid-of, rank-most}
 use Rattle.table.specs.Loops.{Moved}
 use Rattle.table.proofs.Shift.{part-moved, inserted}
 use native.Mathlib.Omega.{arith}

@@ -4,8 +4,8 @@ use Prim.Native.Nat.{ℕ}
 use mathlib.Core.Path.{_≡_, sym, _∙_}
 use denote.Ref.{now}
 use Rattle.rules.specs.declared.Found.the-variants.{At, Absent}
-use Rattle.rules.specs.Lengths.{join}
-use Rattle.rules.specs.Table.{foundOf, lengthOf}
+use Rattle.rules.specs.meaning.Lengths.{join}
+use Rattle.rules.specs.meaning.Table.{foundOf, lengthOf}
 use Rattle.table.proofs.Raising.{above-zero, none, room-here, room-new}
 use native.Mathlib.Omega.{arith}
 use borrow.Author.Needs.{needs}

@@ -6,9 +6,9 @@ use mathlib.Core.List.{List}
 use lib.ListN.{length}
 use denote.Ref.{now}
 use Rattle.rules.specs.declared.Found.the-variants.{At, Absent}
-use Rattle.rules.specs.Table.{foundOf, lengthOf}
-use Rattle.rules.specs.Lengths.{M}
-use Rattle.rules.specs.Operations.{removedLength}
+use Rattle.rules.specs.meaning.Table.{foundOf, lengthOf}
+use Rattle.rules.specs.meaning.Lengths.{M}
+use Rattle.rules.specs.meaning.Operations.{removedLength}
 use Rattle.table.proofs.Raising.{place, its, remove-here, remove-kept, remove-absent}
 use native.Mathlib.Omega.{arith}
 use borrow.Author.Needs.{needs}

@@ -1,0 +1,115 @@
+-- The sample of document 01, byte for byte, and how lines, pieces and limits are counted, computed from the definitions as they stand.
+-- Assumes nothing.
+use Prim.Native.Nat.{ℕ, _≤_, _<_}
+use mathlib.Core.Bool.{true, false}
+use mathlib.Core.Path.{_≡_, refl, sym, ap, _∙_}
+use mathlib.Core.List.{List, [], _∷_, _++_}
+use lib.ListN.{length}
+use lib.Dec.{ltb}
+use borrow.Author.Tests.{lt-ltb, le-ltb}
+use Rattle.rules.specs.meaning.Lengths.{listed, afterAdd, afterRemove}
+use Rattle.rules.specs.meaning.Table.{unused, soundFrom, lengthOf, held, push, withLength, raised, heldWith, merged, newIds, rises}
+use Rattle.rules.specs.meaning.Operations.{raiseRefusal, raiseTable, removeRefusal, removeTable, mergeRefusal, mergeTable}
+use Rattle.rules.specs.meaning.Parcels.{isFree, isOccupied, slotsSound, waiting, lowestFree}
+use Rattle.rules.specs.meaning.Ledgers.{ledgerSound, oneMore, raisedIf}
+use Rattle.rules.specs.meaning.Runs.{tableAt, withTable, sizesRight, tablesSound, allSound, slotOf, firstGiven, refusalIn, valueIn, wordsIn, placeIn, parcelIn, counterOf, refusalOf, valueOf, after}
+use Rattle.rules.specs.meaning.Text.{ascii, behind}
+use Rattle.rules.specs.meaning.Number.{upTo, digits, digitOf, digitRun, fair, judged, readNumber}
+use Rattle.rules.specs.meaning.Lines.{lead, field, textOf, namesStep, firstOf, kindOf, readField, numbersOf}
+use Rattle.rules.specs.meaning.StepLines.{stepFor, stepIn, lineOf, stepOf}
+use Rattle.rules.specs.meaning.Reports.{reportStart, refusedLine, queryLine, ledgerLines, siteLine, siteLines, endLines, acceptedLine, saidOf, stateOf, lastPiece, reportOf, inputLimit, reportRefusal, printedOf}
+use Rattle.rules.specs.laws.report.Pieces.{unbroken, joined, allUnbroken, piecesFrom, report-of-pieces}
+use Rattle.rules.specs.laws.report.Steps.{linesOf, fits, allFit, steps-fit, stepsFrom, report-of-steps}
+use Rattle.rules.specs.cases.Sample.{sampleSteps}
+
+-- the input of document 01's sample, and its whole output
+abbrev pub sampleInput : List ℕ
+sampleInput =
+    ascii "step=add node=0 id=7\nstep=add node=1 id=7\nstep=send from=1 to=2 id=7\nstep=deliver slot=0\n"
+    ++ ascii "step=remove node=0 id=7\nstep=remove node=1 id=7\nstep=remove node=2 id=7\nstep=add node=1 id=7\n"
+    ++ ascii "step=send from=0 to=1 id=7\nstep=again slot=0\nstep=deliver slot=1\nstep=lose slot=0\nstep=deliver slot=0\n"
+    ++ ascii "step=merge from=1 to=2\nstep=remove node=2 id=7\nstep=query node=1 id=7\nstep=query node=2 id=7\n"
+
+abbrev pub sampleOutput : List ℕ
+sampleOutput =
+    ascii "line=13 refused=5\nline=16 node=1 id=7 length=3 present=1\nline=17 node=2 id=7 length=4 present=0\n"
+    ++ ascii "sent=2\ncopied=1\nabsorbed=2\nlost=1\nwaiting=0\nnode=0 shown=1\nnode=1 shown=1\nnode=2 shown=1\n"
+
+-- the input is the lines of the sample's steps
+sample-lines : linesOf sampleSteps ≡ sampleInput
+unfolding linesOf lineOf textOf lead field digits upTo
+sample-lines = refl
+
+sample-fits : allFit sampleSteps ≡ true
+unfolding allFit fits
+sample-fits = refl
+
+-- what those steps say
+sample-said : stepsFrom 1 reportStart sampleSteps ≡ sampleOutput
+unfolding stepsFrom listed afterAdd afterRemove unused soundFrom lengthOf held push withLength raised heldWith merged newIds rises raiseRefusal raiseTable removeRefusal removeTable mergeRefusal mergeTable isFree isOccupied slotsSound waiting lowestFree ledgerSound oneMore raisedIf tableAt withTable sizesRight tablesSound allSound slotOf firstGiven refusalIn valueIn wordsIn placeIn parcelIn counterOf refusalOf valueOf after digits upTo refusedLine queryLine ledgerLines siteLine siteLines endLines acceptedLine saidOf
+sample-said = refl
+
+-- "Whole output": the report of the sample's input is the sample's output, byte for byte
+pub sample-report : reportOf sampleInput ≡ sampleOutput
+sample-report = ap reportOf (sym sample-lines) ∙ report-of-steps sampleSteps (steps-fit sampleSteps sample-fits) ∙ sample-said
+
+-- what every report of a run that no step changed ends with
+abbrev pub emptyEnd : List ℕ
+emptyEnd = ascii "sent=0\ncopied=0\nabsorbed=0\nlost=0\nwaiting=0\nnode=0 shown=0\nnode=1 shown=0\nnode=2 shown=0\n"
+
+-- ---- how lines and pieces are counted, and the ends of reports. Each row is computed over its pieces: taken byte by byte, the
+-- work of the checker about doubles with every byte
+pub record ReportCases : Type 0 where
+  -- no input
+  pub nothing : reportOf [] ≡ emptyEnd
+  -- an empty line
+  pub empty-line : reportOf (ascii "\n") ≡ ascii "line=1 refused=11\n" ++ emptyEnd
+  -- a last piece without its end is refused and never run, be it a step's line or one byte
+  pub unended : reportOf (ascii "\n\nstep=add node=0 id=7") ≡ ascii "line=1 refused=11\nline=2 refused=11\nline=3 refused=11\n" ++ emptyEnd
+  pub one-byte : reportOf (ascii " ") ≡ ascii "line=1 refused=11\n" ++ emptyEnd
+  -- a carriage return is a byte of the line like any other
+  pub returned : reportOf (ascii "step=query node=2 id=0\r\nstep=query node=2 id=0\n")
+      ≡ ascii "line=1 refused=11\nline=2 node=2 id=0 length=0 present=0\n" ++ emptyEnd
+  -- a line that names no step is counted, and the run goes on from the state before it
+  pub between : reportOf (ascii "step=add node=0 id=7\nstep=add node=00 id=8\nstep=query node=0 id=7\n")
+      ≡ ascii "line=2 refused=11\nline=3 node=0 id=7 length=1 present=1\n"
+      ++ ascii "sent=0\ncopied=0\nabsorbed=0\nlost=0\nwaiting=0\nnode=0 shown=1\nnode=1 shown=0\nnode=2 shown=0\n"
+  -- a refused query says its refusal alone, and a parcel that waits is counted
+  pub waits : reportOf (ascii "step=add node=0 id=7\nstep=send from=0 to=1 id=7\nstep=query node=3 id=0\n")
+      ≡ ascii "line=3 refused=3\n"
+      ++ ascii "sent=1\ncopied=0\nabsorbed=0\nlost=0\nwaiting=1\nnode=0 shown=1\nnode=1 shown=0\nnode=2 shown=0\n"
+
+pub report-cases : ReportCases
+unfolding unbroken joined allUnbroken piecesFrom listed afterAdd afterRemove unused soundFrom lengthOf held push withLength raised heldWith merged newIds rises raiseRefusal raiseTable removeRefusal removeTable mergeRefusal mergeTable isFree isOccupied slotsSound waiting lowestFree ledgerSound oneMore raisedIf tableAt withTable sizesRight tablesSound allSound slotOf firstGiven refusalIn valueIn wordsIn placeIn parcelIn counterOf refusalOf valueOf after behind upTo digits digitOf digitRun fair judged readNumber lead namesStep firstOf kindOf readField numbersOf stepFor stepIn stepOf refusedLine queryLine ledgerLines siteLine siteLines endLines acceptedLine saidOf stateOf lastPiece
+report-cases = record {
+  nothing = report-of-pieces [] [] refl refl;
+  empty-line = report-of-pieces ([] ∷ []) [] refl refl;
+  unended = report-of-pieces ([] ∷ [] ∷ []) (ascii "step=add node=0 id=7") refl refl;
+  one-byte = report-of-pieces [] (ascii " ") refl refl;
+  returned = report-of-pieces (ascii "step=query node=2 id=0\r" ∷ ascii "step=query node=2 id=0" ∷ []) [] refl refl;
+  between = report-of-pieces (ascii "step=add node=0 id=7" ∷ ascii "step=add node=00 id=8" ∷ ascii "step=query node=0 id=7" ∷ []) [] refl refl;
+  waits = report-of-pieces (ascii "step=add node=0 id=7" ∷ ascii "step=send from=0 to=1 id=7" ∷ ascii "step=query node=3 id=0" ∷ []) [] refl refl;
+}
+
+-- ---- the limits: 32,768 bytes are run and 32,769 are not, whatever the room; 22 bytes of room for each byte of input, and 256
+pub record LimitCases : Type 0 where
+  pub longest : reportRefusal 32768 721152 ≡ 0
+  pub too-long : reportRefusal 32769 721174 ≡ 12
+  pub too-long-first : reportRefusal 32769 0 ≡ 12
+  pub too-short : reportRefusal 32768 721151 ≡ 13
+  pub no-input : reportRefusal 0 256 ≡ 0
+  pub no-room : reportRefusal 0 255 ≡ 13
+
+pub limit-cases : LimitCases
+unfolding firstGiven reportRefusal
+limit-cases = record { longest = refl; too-long = refl; too-long-first = refl; too-short = refl; no-input = refl; no-room = refl }
+
+-- "An input over 32,768 bytes prints only `refused=12`", as a line
+pub printed-over : (input : List ℕ) → 32768 < length input → printedOf input ≡ ascii "refused=12\n"
+unfolding printedOf
+printed-over input h = let over : ltb inputLimit (length input) ≡ true = lt-ltb inputLimit (length input) h in rw over
+
+-- "Otherwise it prints" the report
+pub printed-whole : (input : List ℕ) → length input ≤ 32768 → printedOf input ≡ reportOf input
+unfolding printedOf
+printed-whole input h = let within : ltb inputLimit (length input) ≡ false = le-ltb inputLimit (length input) h in rw within

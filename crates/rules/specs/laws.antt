@@ -1,0 +1,10 @@
+-- What follows from `meaning`.
+pub mod Lengths
+pub mod table
+pub mod run
+pub mod history
+pub mod Put
+pub mod line
+pub mod Members
+pub mod report
+pub mod Determined

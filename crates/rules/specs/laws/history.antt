@@ -1,0 +1,12 @@
+-- What a list of steps makes of a run: demands 2 and 3.
+pub mod Figure4
+pub mod Rising
+pub mod Counting
+pub mod Pairs
+pub mod Gains
+pub mod Absorbing
+pub mod Distinct
+pub mod Climbing
+pub mod Held
+pub mod Offering
+pub mod Room

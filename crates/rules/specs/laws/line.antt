@@ -1,0 +1,7 @@
+-- Step lines.
+pub mod Numbers
+pub mod Lines
+pub mod Places
+pub mod Steps
+pub mod Writing
+pub mod Area

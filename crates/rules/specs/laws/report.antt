@@ -1,0 +1,6 @@
+-- The report.
+pub mod Parts
+pub mod Fits
+pub mod Places
+pub mod Pieces
+pub mod Steps

@@ -1,0 +1,135 @@
+-- The laws of a report: how it goes on byte by byte, that it fits the room named for it, and that the contract of `report` leaves one result.
+-- Assumes nothing.
+use Prim.Native.Nat.{ℕ, zero, suc, _+_, _*_, _≤_, _<_}
+use native.Mathlib.Omega.{arith}
+use mathlib.Core.Path.{_≡_, refl, ap, _∙_}
+use mathlib.Core.List.{List, [], _∷_, _++_}
+use lib.ListN.{length, length-append}
+use lib.Dec.{eqb}
+use borrow.Author.Tests.{lt-ltb, le-ltb, eq-eqb, ne-eqb}
+use Rattle.rules.specs.declared.Step.{Step}
+use Rattle.rules.specs.declared.Step.the-variants.{Add, Remove, Query, Send, Merge, Deliver, Again, Lose}
+use Rattle.rules.specs.declared.Named.{Named}
+use Rattle.rules.specs.declared.Named.the-variants.{Is, NoStep}
+use Rattle.rules.specs.declared.Reported.{Reported}
+use Rattle.rules.specs.meaning.Runs.{State, firstGiven, refusalOf, valueOf}
+use Rattle.rules.specs.laws.line.Numbers.{below, by-test}
+use Rattle.rules.specs.meaning.StepLines.{lineOf, stepOf}
+use Rattle.rules.specs.laws.line.Steps.{query-line, read-step}
+use Rattle.rules.specs.meaning.Reports.{reportRun, reportStart, lineEnd, refusedLine, endLines, acceptedLine, lineBy, saidOf, stateOf, lastPiece, reportFrom, reportOf, inputLimit, reportRoom, reportRefusal, reportFor, Told}
+use Rattle.rules.specs.laws.report.Parts.{refusal-within, refused-within, query-within, end-within}
+
+-- ---- how a report goes on, by the next byte of the input
+module _ (n : ℕ) (s : State) (line : List ℕ) where
+  -- a line is ended: its step is run, and the next line begins
+  pub report-line : (c : ℕ) (cs : List ℕ) → c ≡ lineEnd → reportFrom n s line (c ∷ cs) ≡ saidOf n s (stepOf line) ++ reportFrom (suc n) (stateOf s (stepOf line)) [] cs
+  unfolding reportFrom
+  report-line c cs h = rw (eq-eqb c lineEnd h)
+
+  -- every other byte is one more of the line
+  pub report-byte : (c : ℕ) (cs : List ℕ) → (c ≡ lineEnd → ⊥) → reportFrom n s line (c ∷ cs) ≡ reportFrom n s (line ++ (c ∷ [])) cs
+  unfolding reportFrom
+  report-byte c cs h = rw (ne-eqb c lineEnd h)
+
+-- the input is at its end, and so is its last line
+pub report-done : (n : ℕ) (s : State) → reportFrom n s [] [] ≡ endLines s
+unfolding reportFrom lastPiece
+report-done n s = refl
+
+-- or its last piece is not ended
+pub report-unended : (n : ℕ) (s : State) (line : List ℕ) → 0 < length line → reportFrom n s line [] ≡ refusedLine n 11 ++ endLines s
+unfolding reportFrom lastPiece
+report-unended n s [] h = absurd (omega arith)
+report-unended n s (c ∷ cs) h = refl
+
+-- the whole: from line 1 on, in a fresh run
+pub report-starts : (input : List ℕ) → reportOf input ≡ reportFrom 1 reportStart [] input
+unfolding reportOf
+report-starts input = refl
+
+-- ---- a report fits its room: no byte of the input earns more than 22 bytes
+-- the line of a query has at least 20 bytes
+query-long : (k e : ℕ) → 20 ≤ length (lineOf (Query k e))
+query-long k e = rw (query-line k 0 e) (simp (length-append) (omega arith))
+
+-- an accepted step says nothing, or it is a query, whose own line is long enough
+accepted-within : (n : ℕ) (step : Step) (m : ℕ) → n < 100000 → length (acceptedLine n step m) ≤ 22 * length (lineOf step)
+unfolding acceptedLine
+accepted-within n (Add k e) m p = omega arith
+accepted-within n (Remove k e) m p = omega arith
+accepted-within n (Query k e) m p = let a = query-within n k e m p in omega (arith, query-long k e)
+accepted-within n (Send f t e) m p = omega arith
+accepted-within n (Merge f t) m p = omega arith
+accepted-within n (Deliver i) m p = omega arith
+accepted-within n (Again i) m p = omega arith
+accepted-within n (Lose i) m p = omega arith
+
+line-by-within : (r n : ℕ) (step : Step) (m : ℕ) → n < 100000 → r ≤ 10 → length (lineBy r n step m) ≤ 22 * (length (lineOf step) + 1)
+line-by-within zero n step m p q = let a = accepted-within n step m p in omega arith
+line-by-within (suc r) n step m p q = let a : length (refusedLine n (suc r)) ≤ 22 = refused-within n (suc r) p (omega arith) in omega arith
+
+-- what a text says is within 22 bytes for each of its bytes and its end
+pub said-within : (n : ℕ) (s : State) (line : List ℕ) → n < 100000 → length (saidOf n s (stepOf line)) ≤ 22 * (length line + 1)
+unfolding saidOf
+said-within n s line p = go (stepOf line) refl
+  where
+    go : (r : Named) → stepOf line ≡ r → length (saidOf n s r) ≤ 22 * (length line + 1)
+    go (Is step) e = rw (← read-step line step e .0) (line-by-within (refusalOf reportRun s step) n step (valueOf reportRun s step) p (refusal-within reportRun s step))
+    go NoStep e = let a = refused-within n 11 p (omega arith) in omega arith
+
+last-within : (n : ℕ) (line : List ℕ) → n < 100000 → length (lastPiece n line) ≤ 22 * length line
+unfolding lastPiece
+last-within n [] p = omega arith
+last-within n (c ∷ cs) p = let a = refused-within n 11 p (omega arith) in omega arith
+
+-- the report from line n on: 22 bytes for each byte of the line so far and of the input behind it, and the end
+pub report-within : (n : ℕ) (s : State) (line input : List ℕ) → n + length input < 100000 → length (reportFrom n s line input) ≤ 22 * (length line + length input) + 187
+unfolding reportFrom
+report-within n s line [] p = simp (length-append) (omega (arith, last-within n line (omega arith), end-within s))
+report-within n s line (c ∷ cs) p =
+    by-test (eqb c lineEnd)
+    (λ ends.
+    let said : length (saidOf n s (stepOf line)) ≤ 22 * (length line + 1) = said-within n s line (omega arith) in
+    let rest : length (reportFrom (suc n) (stateOf s (stepOf line)) [] cs) ≤ 22 * (0 + length cs) + 187 = report-within (suc n) (stateOf s (stepOf line)) [] cs (omega arith) in
+    rw (ends, length-append) (omega arith))
+    (λ more.
+    let rest : length (reportFrom n s (line ++ (c ∷ [])) cs) ≤ 22 * (length (line ++ (c ∷ [])) + length cs) + 187 = report-within n s (line ++ (c ∷ [])) cs (omega arith) in
+    let long : length (line ++ (c ∷ [])) ≡ length line + 1 = length-append line (c ∷ []) in
+    rw more (omega arith))
+
+-- the report of an input within the limit fits the room that is asked of the buffer
+pub report-fits : (input : List ℕ) → length input ≤ inputLimit → length (reportOf input) ≤ reportRoom (length input)
+unfolding reportOf
+report-fits input h = let a = report-within 1 reportStart [] input (omega arith) in omega arith
+
+-- ---- the two refusals, in their order, and what is told then
+pub report-over : (n room : ℕ) → inputLimit < n → reportRefusal n room ≡ 12
+unfolding reportRefusal firstGiven
+report-over n room h = rw (lt-ltb inputLimit n h)
+
+pub report-short : (n room : ℕ) → n ≤ inputLimit → room < reportRoom n → reportRefusal n room ≡ 13
+unfolding reportRefusal firstGiven
+report-short n room h k = rw (le-ltb inputLimit n h, lt-ltb room (reportRoom n) k)
+
+pub report-taken : (n room : ℕ) → n ≤ inputLimit → reportRoom n ≤ room → reportRefusal n room ≡ 0
+unfolding reportRefusal firstGiven
+report-taken n room h k = rw (le-ltb inputLimit n h, le-ltb room (reportRoom n) k)
+
+-- a refused call writes nothing
+pub told-refused : (input : List ℕ) (room r : ℕ) → reportRefusal (length input) room ≡ suc r → reportFor input room ≡ []
+unfolding reportFor
+told-refused input room r h = rw (h, ne-eqb (suc r) 0 (λ z. omega arith))
+
+-- any other writes the whole report
+pub told-taken : (input : List ℕ) (room : ℕ) → reportRefusal (length input) room ≡ 0 → reportFor input room ≡ reportOf input
+unfolding reportFor
+told-taken input room h = rw h
+
+-- and has the room for it
+pub told-fits : (input : List ℕ) (room : ℕ) → length (reportFor input room) ≤ room
+told-fits input room =
+    below inputLimit (length input)
+    (λ over. rw (told-refused input room 11 (report-over (length input) room over)) (omega arith))
+    (λ fits. below room (reportRoom (length input))
+    (λ short. rw (told-refused input room 12 (report-short (length input) room fits short)) (omega arith))
+    (λ wide. rw (told-taken input room (report-taken (length input) room fits wide)) (omega (arith, report-fits input fits))))

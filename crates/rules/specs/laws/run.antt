@@ -1,0 +1,10 @@
+-- A run: its words, slots and ledger, and the steps.
+pub mod Sites
+pub mod Tables
+pub mod Zeros
+pub mod Slots
+pub mod Ledgers
+pub mod Steps
+pub mod Sound
+pub mod Acts
+pub mod Bursts

@@ -1,0 +1,9 @@
+-- One table.
+pub mod Order
+pub mod View
+pub mod Law
+pub mod Update
+pub mod Places
+pub mod Insert
+pub mod Merge
+pub mod Operations

@@ -1,0 +1,20 @@
+-- What is right: definitions and contract records, in the order to read them.
+pub mod Lengths
+pub mod Table
+pub mod Operations
+pub mod Parcels
+pub mod Ledgers
+pub mod Runs
+pub mod Acts
+pub mod Histories
+pub mod Text
+pub mod Number
+pub mod Lines
+pub mod StepLines
+pub mod Put
+pub mod Writing
+pub mod Area
+pub mod Calls
+pub mod Bursts
+pub mod Members
+pub mod Reports

@@ -1,0 +1,144 @@
+-- The report program: the text that it prints for the text of some steps. "Reads standard input; runs 3 sites, C = 8, 8 slots, from fresh."
+-- Assumes nothing.
+use Prim.Native.Nat.{ℕ, zero, suc, _+_, _*_}
+use mathlib.Core.Path.{_≡_}
+use mathlib.Core.Bool.{Bool, true, false, cond}
+use mathlib.Core.List.{List, [], _∷_, _++_}
+use lib.ListN.{length, replicate}
+use lib.Dec.{ltb, eqb}
+use Rattle.rules.specs.declared.Run.{Run}
+use Rattle.rules.specs.declared.Ledger.{Ledger}
+use Rattle.rules.specs.declared.Step.{Step}
+use Rattle.rules.specs.declared.Step.the-variants.{Add, Remove, Query, Send, Merge, Deliver, Again, Lose}
+use Rattle.rules.specs.declared.Named.{Named}
+use Rattle.rules.specs.declared.Named.the-variants.{Is, NoStep}
+use Rattle.rules.specs.declared.Reported.{Reported}
+use Rattle.rules.specs.meaning.Lengths.{listed}
+use Rattle.rules.specs.meaning.Table.{held}
+use Rattle.rules.specs.meaning.Parcels.{noParcel, waiting}
+use Rattle.rules.specs.meaning.Ledgers.{emptyLedger}
+use Rattle.rules.specs.meaning.Runs.{State, lent, tableAt, _when_, firstGiven, refusalOf, valueOf, after}
+use Rattle.rules.specs.meaning.Text.{ascii}
+use Rattle.rules.specs.meaning.Number.{digits}
+use Rattle.rules.specs.meaning.StepLines.{stepOf}
+use Rattle.rules.specs.meaning.Put.{put}
+
+-- ---- the run
+abbrev pub reportRun : Run
+reportRun = record { sites = 3; capacity = 8 }
+
+abbrev pub reportStart : State
+reportStart = lent (replicate 48 0) (replicate 8 noParcel) emptyLedger
+
+-- ---- the lines of a report
+abbrev pub lineEnd : ℕ
+lineEnd = 10
+
+-- "a line for each refused step (input line counted from 1, number)"
+unfoldable pub refusedLine : ℕ → ℕ → List ℕ
+refusedLine n r = ascii "line=" ++ (digits n ++ (ascii " refused=" ++ (digits r ++ (lineEnd ∷ []))))
+
+-- "and each accepted query (line, site, id, length, 1 if listed else 0)"
+unfoldable pub queryLine : ℕ → ℕ → ℕ → ℕ → List ℕ
+queryLine n k e m =
+    ascii "line="
+    ++ (digits n ++ (ascii " node=" ++ (digits k ++ (ascii " id=" ++ (digits e ++ (ascii " length=" ++ (digits m ++ (ascii " present=" ++ (digits (cond (listed m) 1 0) ++ (lineEnd ∷ []))))))))))
+
+-- a name and a number
+abbrev pub countLine : List ℕ → ℕ → List ℕ
+countLine name n = name ++ (digits n ++ (lineEnd ∷ []))
+
+-- "then the ledger": its four counts, and how many wait
+unfoldable pub ledgerLines : Ledger → ℕ → List ℕ
+ledgerLines l w =
+    countLine (ascii "sent=") (l .sent)
+    ++ (countLine (ascii "copied=") (l .copied)
+    ++ (countLine (ascii "absorbed=") (l .absorbed)
+    ++ (countLine (ascii "lost=") (l .lost)
+    ++ countLine (ascii "waiting=") w)))
+
+-- "for each site `shown`: the number of entries in its table"
+unfoldable pub siteLine : ℕ → List ℕ → List ℕ
+siteLine k t = ascii "node=" ++ (digits k ++ (ascii " shown=" ++ (digits (held t) ++ (lineEnd ∷ []))))
+
+-- n sites, from site k on
+unfoldable pub siteLines : ℕ → ℕ → List ℕ → List ℕ
+siteLines zero k ws = []
+siteLines (suc n) k ws = siteLine k (tableAt reportRun ws k) ++ siteLines n (suc k) ws
+
+-- what stands at the end of every report
+unfoldable pub endLines : State → List ℕ
+endLines s = ledgerLines (s .ledger) (waiting (s .slots)) ++ siteLines (reportRun .sites) 0 (s .words)
+
+-- ---- what each line of the input adds to the report, and what it does to the state
+-- an accepted step says nothing, unless it is a query
+unfoldable pub acceptedLine : ℕ → Step → ℕ → List ℕ
+acceptedLine n (Add k e) m = []
+acceptedLine n (Remove k e) m = []
+acceptedLine n (Query k e) m = queryLine n k e m
+acceptedLine n (Send f t e) m = []
+acceptedLine n (Merge f t) m = []
+acceptedLine n (Deliver i) m = []
+acceptedLine n (Again i) m = []
+acceptedLine n (Lose i) m = []
+
+abbrev pub lineBy : ℕ → ℕ → Step → ℕ → List ℕ
+lineBy zero n step m = acceptedLine n step m
+lineBy (suc r) n step m = refusedLine n (suc r)
+
+unfoldable pub saidOf : ℕ → State → Named → List ℕ
+saidOf n s (Is step) = lineBy (refusalOf reportRun s step) n step (valueOf reportRun s step)
+saidOf n s NoStep = refusedLine n 11
+
+unfoldable pub stateOf : State → Named → State
+stateOf s (Is step) = after reportRun s step
+stateOf s NoStep = s
+
+-- "a last piece of one byte or more without it is refused with 11"
+unfoldable pub lastPiece : ℕ → List ℕ → List ℕ
+lastPiece n [] = []
+lastPiece n (c ∷ cs) = refusedLine n 11
+
+-- ---- the report from line n on, in a state, with the bytes of the line so far and the input behind them
+unfoldable pub reportFrom : ℕ → State → List ℕ → List ℕ → List ℕ
+reportFrom n s line [] = lastPiece n line ++ endLines s
+reportFrom n s line (c ∷ cs) =
+    cond (eqb c lineEnd) (saidOf n s (stepOf line) ++ reportFrom (suc n) (stateOf s (stepOf line)) [] cs) (reportFrom n s (line ++ (c ∷ [])) cs)
+
+unfoldable pub reportOf : List ℕ → List ℕ
+reportOf input = reportFrom 1 reportStart [] input
+
+-- ---- the limits
+-- "An input over 32,768 bytes"
+abbrev pub inputLimit : ℕ
+inputLimit = 32768
+
+-- room for the report of so many bytes: an empty line is one byte of input and at most 22 of the report, and no other byte earns more
+abbrev pub reportRoom : ℕ → ℕ
+reportRoom n = 22 * n + 256
+
+unfoldable pub reportRefusal : ℕ → ℕ → ℕ
+reportRefusal n room = firstGiven ((12 when ltb inputLimit n) ∷ (13 when ltb room (reportRoom n)) ∷ [])
+
+-- the report where none of the two is given, else nothing
+unfoldable pub reportFor : List ℕ → ℕ → List ℕ
+reportFor input room = cond (eqb (reportRefusal (length input) room) 0) (reportOf input) []
+
+-- the contract of `report`: its answer, and the whole buffer afterwards
+pub record Told (input before : List ℕ) (r : Reported) (after : List ℕ) : Type 0 where
+  pub refusal : r .refusal ≡ reportRefusal (length input) (length before)
+  pub written : r .written ≡ length (reportFor input (length before))
+  pub bytes : after ≡ put before 0 (reportFor input (length before))
+
+-- ---- what the program prints: the report, or for an input over the limit one line
+unfoldable pub printedOf : List ℕ → List ℕ
+printedOf input = cond (ltb inputLimit (length input)) (ascii "refused=12" ++ (lineEnd ∷ [])) (reportOf input)
+
+-- the same, where the buffer has room for the largest report, else nothing
+unfoldable pub printedFor : List ℕ → ℕ → List ℕ
+printedFor input room = cond (ltb room (reportRoom inputLimit)) [] (printedOf input)
+
+-- the contract of `printed`: how many bytes, and the whole buffer afterwards
+pub record Printed (input before : List ℕ) (n : ℕ) (after : List ℕ) : Type 0 where
+  pub count : n ≡ length (printedFor input (length before))
+  pub bytes : after ≡ put before 0 (printedFor input (length before))
