@@ -1,7 +1,7 @@
 -- What the whole guarantees: the page to open first. Each theorem here is one sentence of the three demands, said of the very definitions that
 -- the contracts cite, and proved in the module that its last line names. Nothing else stands here.
 -- Assumes nothing.
-use Prim.Native.Nat.{ℕ, suc, _+_, _*_, _%_, _^_, _≤_, _<_}
+use Prim.Native.Nat.{ℕ, suc, _+_, _*_, _/_, _%_, _^_, _≤_, _<_}
 use mathlib.Core.Bool.{Bool, true, false, _&&_, cond}
 use mathlib.Core.Path.{_≡_}
 use mathlib.Core.List.{List, [], _∷_, _++_}
@@ -27,22 +27,23 @@ use Rattle.rules.specs.meaning.Bursts.{asksOf, stepsIn, Handled}
 use Rattle.rules.specs.meaning.Members.{Answered}
 use Rattle.rules.specs.meaning.Writing.{Filled}
 use Rattle.rules.specs.meaning.Reports.{Told, Printed}
-use Rattle.rules.specs.laws.run.Steps as RunLaws
+use Rattle.rules.specs.laws.run.Steps as Steps
 use Rattle.rules.specs.laws.history.Figure4 as Figure4
 use Rattle.rules.specs.laws.history.Rising as Rising
 use Rattle.rules.specs.laws.history.Counting as Counting
 use Rattle.rules.specs.laws.history.Absorbing as Absorbing
 use Rattle.rules.specs.laws.history.Room as Room
-use Rattle.rules.specs.laws.line.Lines as LineLaws
-use Rattle.rules.specs.laws.line.Steps as StepLineLaws
-use Rattle.rules.specs.laws.run.Bursts as BurstLaws
+use Rattle.rules.specs.laws.line.Lines as Lines
+use Rattle.rules.specs.laws.line.Steps as StepLines
+use Rattle.rules.specs.laws.run.Bursts as Bursts
+use Rattle.rules.specs.laws.Members as Members
 use Rattle.rules.specs.laws.Determined as Determined
 
 -- ---- demand 1
 -- "Bad input gets the listed refusal, with nothing written": a refused step answers its number with 0, and leaves the state as it is
 pub refused-writes-nothing : (run : Run) (s : State) (step : Step) (r : ℕ) → refusalOf run s step ≡ suc r
     → (after run s step ≡ s) × (answerOf run s step ≡ record { refusal = suc r; value = 0 })
-refused-writes-nothing run s step r h = (RunLaws.refused-stays run s step r h, RunLaws.refused-answer run s step r h)
+refused-writes-nothing run s step r h = (Steps.refused-stays run s step r h, Steps.refused-answer run s step r h)
 
 -- ---- demand 2: "Adding, removing, merging and membership give exactly what the 2020 paper defines"
 module _ (run : Run) (s : State) where
@@ -78,17 +79,22 @@ module _ (run : Run) (s : State) where
       → valueOf run s (Merge f t) ≡ rises (tableAt run (s .words) t) (tableAt run (after run s (Merge f t) .words) t)
   merge-counts-the-rises = Rising.merge-value run s
 
+-- in(s, e) for many ids at once: accepted, bit i mod 8 of byte i / 8 tells whether the table lists id i
+pub members-are-listed : (t ids before after : List ℕ) → Answered t ids before 0 after → (i : ℕ) → i < length ids
+    → getD after (i / 8) 0 / 2 ^ (i % 8) % 2 ≡ cond (listed (lengthOf t (getD ids i 0))) 1 0
+members-are-listed = Members.answered-bits
+
 -- "A step line written is read back as the same step": by the step, and by the four numbers
 pub written-is-read : (step : Step) → Fits step → stepOf (lineOf step) ≡ Is step
-written-is-read = StepLineLaws.written-step
+written-is-read = StepLines.written-step
 
 pub written-is-read-as-numbers : (kind first second id : ℕ) → namesStep kind second id ≡ true → first < 2 ^ 64 → second < 2 ^ 64 → id < 2 ^ 64
     → numbersOf (textOf kind first second id) ≡ Numbers kind first second id
-written-is-read-as-numbers = LineLaws.written-read
+written-is-read-as-numbers = Lines.written-read
 
 -- "a line that is read is written back byte for byte"
 pub read-is-written : (line : List ℕ) (step : Step) → stepOf line ≡ Is step → (lineOf step ≡ line) × Fits step
-read-is-written = StepLineLaws.read-step
+read-is-written = StepLines.read-step
 
 -- ---- demands 2 and 3: "Start fresh and take any list of steps, refused ones among them."
 module _ (run : Run) (s : State) (fresh : freshRefusal run (length (s .words)) (length (s .slots)) ≡ 0) where
@@ -146,11 +152,11 @@ module _ (run : Run) (s : State) (asks given : List ℕ) (left : State) (said : 
       × ((before : List Named) (ask : Named) (rest : List Named) → asksOf asks ≡ before ++ (ask ∷ rest)
       → (getD said (2 * length before) 0 ≡ namedAnswer run (ran run s (stepsIn before)) ask .refusal)
       × (getD said (2 * length before + 1) 0 ≡ namedAnswer run (ran run s (stepsIn before)) ask .value))
-  burst-is-its-steps = BurstLaws.one-by-one run s asks given left said
+  burst-is-its-steps = Bursts.one-by-one run s asks given left said
 
   -- demand 1 of a burst: refused, it writes nothing
   pub refused-burst-writes-nothing : (r : ℕ) → Handled run s asks given (suc r) left said → (left ≡ s) × (said ≡ given)
-  refused-burst-writes-nothing = BurstLaws.refused-burst run s asks given left said
+  refused-burst-writes-nothing = Bursts.refused-burst run s asks given left said
 
 -- ---- "Prove that two results which both satisfy it are equal": where a contract is a record. Every other one is an equation for the result and one for
 -- each thing lent, and then it is `one-outcome`

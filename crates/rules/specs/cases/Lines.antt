@@ -5,17 +5,17 @@ use mathlib.Core.List.{List, [], _∷_}
 use Prim.Native.Nat.{ℕ}
 use Prim.Native.String.{String}
 use lib.Dec.{eqb}
+use lib.ListN.{replicate}
 use Rattle.rules.specs.meaning.Text.{ascii, behind}
 use Rattle.rules.specs.meaning.Number.{upTo, digits, digitOf, digitRun, fair, judged, readNumber}
-use Rattle.rules.specs.meaning.Lines.{lead, field, textOf, firstOf, kindOf, readField, numbersOf}
+use Rattle.rules.specs.meaning.Lines.{lead, field, textOf, namesStep, firstOf, kindOf, readField, numbersOf}
+use Rattle.rules.specs.meaning.Runs.{firstGiven}
+use Rattle.rules.specs.meaning.Put.{put}
+use Rattle.rules.specs.meaning.Writing.{checkOf}
+use Rattle.rules.specs.meaning.Area.{little, laid, isNoLine, readRefusal, areaAfter}
+use Rattle.rules.specs.cases.Marked.{all, same}
 use Rattle.rules.specs.declared.Line.{Line}
 use Rattle.rules.specs.declared.Line.the-variants.{Numbers, NoLine}
-
-same : List ℕ → List ℕ → Bool
-same [] [] = true
-same [] (y ∷ ys) = false
-same (x ∷ xs) [] = false
-same (x ∷ xs) (y ∷ ys) = eqb x y && same xs ys
 
 gives : Line → ℕ → ℕ → ℕ → ℕ → Bool
 gives (Numbers k a b i) k′ a′ b′ i′ = eqb k k′ && eqb a a′ && eqb b b′ && eqb i i′
@@ -31,10 +31,6 @@ isRefused NoLine = true
 
 no-line : String → Bool
 no-line s = isRefused (numbersOf (ascii s))
-
-pub all : List Bool → Bool
-all [] = true
-all (b ∷ bs) = b && all bs
 
 pub cases : List Bool
 cases =
@@ -65,5 +61,29 @@ cases =
     ∷ []
 
 pub worked : all cases ≡ true
-unfolding all cases both no-line isRefused same gives textOf field lead digits upTo numbersOf kindOf firstOf behind readField readNumber judged digitRun fair digitOf
+unfolding cases both no-line isRefused gives textOf field lead digits upTo numbersOf kindOf firstOf behind readField readNumber judged digitRun fair digitOf
 worked = refl
+
+-- ---- the reader that C calls: "An area under 32 bytes gives 13, then 11 is tried", and what stands in the area afterwards; the check: 11, then 13
+reads : String → ℕ → ℕ → Bool
+reads s room r = eqb (readRefusal (ascii s) (replicate room 9)) r
+
+checks : ℕ → ℕ → ℕ → ℕ → ℕ → ℕ → Bool
+checks kind first second id room r = eqb (checkOf kind first second id room) r
+
+pub refusals : List Bool
+refusals =
+    reads "step=lose slot=" 31 13
+    ∷ reads "step=lose slot=1" 31 13
+    ∷ reads "step=lose slot=" 32 11
+    ∷ reads "step=lose slot=1" 32 0
+    ∷ same (areaAfter (ascii "step=send from=258 to=3 id=65536") (replicate 34 9)) (4 ∷ 0 ∷ 0 ∷ 0 ∷ 0 ∷ 0 ∷ 0 ∷ 0 ∷ 2 ∷ 1 ∷ 0 ∷ 0 ∷ 0 ∷ 0 ∷ 0 ∷ 0 ∷ 3 ∷ 0 ∷ 0 ∷ 0 ∷ 0 ∷ 0 ∷ 0 ∷ 0 ∷ 0 ∷ 0 ∷ 1 ∷ 0 ∷ 0 ∷ 0 ∷ 0 ∷ 0 ∷ 9 ∷ 9 ∷ [])
+    ∷ checks 9 0 0 0 0 11
+    ∷ checks 1 0 5 7 0 11
+    ∷ checks 8 1023 0 0 18 13
+    ∷ checks 8 1023 0 0 19 0
+    ∷ []
+
+pub refused-so : all refusals ≡ true
+unfolding refusals reads checks readRefusal areaAfter checkOf isNoLine laid little put firstGiven textOf field lead digits upTo numbersOf kindOf firstOf behind readField readNumber judged digitRun fair digitOf namesStep
+refused-so = refl

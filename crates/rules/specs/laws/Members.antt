@@ -150,6 +150,17 @@ later-kept t ids out = kept (membersRefusal t (length ids) (length out))
     kept zero = rw (← answers-length t ids) (put-behind out (answersOf t ids))
     kept (suc r) = refl
 
+-- accepted, the bit of each id tells whether it is listed; refused, no byte is written
+pub answered-bits : (t ids out now : List ℕ) → Answered t ids out 0 now → (i : ℕ) → i < length ids → getD now (i / 8) 0 / 2 ^ (i % 8) % 2 ≡ bit t (getD ids i 0)
+answered-bits t ids out now h i l =
+    let front : take (bytesFor (length ids)) now ≡ answersOf t ids = ap (take (bytesFor (length ids))) (h .bytes) ∙ front-written t ids out (sym (h .refusal)) in
+    let there : getD now (i / 8) 0 ≡ getD (answersOf t ids) (i / 8) 0 = sym (getD-take (bytesFor (length ids)) now (i / 8) 0 (omega (arith, l))) ∙ ap (λ (bs : List ℕ). getD bs (i / 8) 0) front in
+    rw there (answer-at t ids i l)
+
+pub answered-refused : (t ids out now : List ℕ) (r : ℕ) → Answered t ids out (suc r) now → now ≡ out
+unfolding membersAfter
+answered-refused t ids out now r h = h .bytes ∙ ap (λ (k : ℕ). unlessRefused k out (put out 0 (answersOf t ids))) (sym (h .refusal))
+
 -- "No ids asked: accepted, nothing written"
 pub none-written : (t out : List ℕ) → membersAfter t [] out ≡ out
 unfolding membersAfter answersOf bytesOf

@@ -7,6 +7,7 @@ use native.Mathlib.Omega.{arith}
 use borrow.Author.Tests.{eqb-true, eq-eqb, leb-true, le-leb}
 use lib.Dec.{leb, eqb}
 use lib.ListN.{length, getD}
+use Rattle.rules.specs.laws.table.View.{parts}
 use Rattle.rules.specs.meaning.Text.{Front, front, refused, next, behind}
 use Rattle.rules.specs.meaning.Number.{digits, readNumber, digitOf}
 use Rattle.rules.specs.laws.line.Numbers.{by-test, NoDigit, read-digits, read-text, read-suffix}
@@ -36,10 +37,6 @@ next-says refused g v rest e = absurd (let z : _≡_ {A = ℕ} 0 1 = cc in omega
 pub front-cases : {P : Type 0} (f : Front) → (f ≡ refused → P) → ((v : ℕ) (r : List ℕ) → f ≡ front v r → P) → P
 front-cases (front v r) f g = g v r refl
 front-cases refused f g = f refl
-
-and-says : (a b : Bool) → (a && b) ≡ true → (a ≡ true) × (b ≡ true)
-and-says true b e = (refl, e)
-and-says false b e = absurd (let z : _≡_ {A = ℕ} 0 1 = cc in omega arith)
 
 or-says : (a b : Bool) → (a || b) ≡ true → a ≡ false → b ≡ true
 or-says true b e f = absurd (let z : _≡_ {A = ℕ} 0 1 = cc in omega arith)
@@ -157,9 +154,9 @@ ended-says k a b i (x ∷ u) k′ a′ b′ i′ e = absurd (let z : _≡_ {A = 
 pub step-says : (kind second i : ℕ) → namesStep kind second i ≡ true → (1 ≤ kind) × (kind ≤ 8) × (hasSecond kind ≡ false → second ≡ 0) × (hasId kind ≡ false → i ≡ 0)
 unfolding namesStep
 step-says kind second i e =
-    let a = and-says (leb 1 kind && leb kind 8 && (hasSecond kind || eqb second 0)) (hasId kind || eqb i 0) e in
-    let b = and-says (leb 1 kind && leb kind 8) (hasSecond kind || eqb second 0) (a .0) in
-    let d = and-says (leb 1 kind) (leb kind 8) (b .0) in (
+    let a = parts (leb 1 kind && leb kind 8 && (hasSecond kind || eqb second 0)) (hasId kind || eqb i 0) e in
+    let b = parts (leb 1 kind && leb kind 8) (hasSecond kind || eqb second 0) (a .0) in
+    let d = parts (leb 1 kind) (leb kind 8) (b .0) in (
       leb-true 1 kind (d .0),
       leb-true kind 8 (d .1),
       (λ z. eqb-true second 0 (or-says (hasSecond kind) (eqb second 0) (b .1) z)),

@@ -1,21 +1,51 @@
--- The laws of the inner step: from step to step no slot is free below the number that is handed on.
+-- The laws of the inner step: what the judge's word before it means, and that from step to step no slot is free below the number that is handed on.
 -- Assumes nothing.
 use Prim.Native.Nat.{ℕ, zero, suc, _≤_}
 use native.Mathlib.Nat.{le-refl, le-trans}
 use native.Mathlib.Omega.{arith}
-use mathlib.Core.Path.{_≡_, ap}
-use mathlib.Core.Bool.{Bool, cond}
+use mathlib.Core.Path.{_≡_, refl, ap}
+use mathlib.Core.Bool.{Bool, true, false, cond}
 use lib.ListN.{length}
-use borrow.Author.Tests.{ne-eqb}
+use borrow.Author.Tests.{ne-eqb, not-false}
 use Rattle.rules.specs.declared.Answer.{Answer}
 use Rattle.rules.specs.declared.Run.{Run}
 use Rattle.rules.specs.declared.Step.{Step}
 use Rattle.rules.specs.declared.Step.the-variants.{Add, Remove, Query, Send, Merge, Deliver, Again, Lose}
 use Rattle.rules.specs.meaning.Operations.{answer}
-use Rattle.rules.specs.meaning.Parcels.{lowestFree}
+use Rattle.rules.specs.meaning.Lengths.{M}
+use Rattle.rules.specs.meaning.Parcels.{noParcel, slotsSound, lowestFree}
 use Rattle.rules.specs.laws.run.Slots.{set-lowest, lowest-within}
-use Rattle.rules.specs.meaning.Runs.{State, sightOf, placeIn, parcelIn, valueIn, refusalOf, valueOf, stateBy, moved, after}
-use Rattle.rules.specs.meaning.Acts.{answerUnder, afterUnder, Acted, lowTaken, lowAfter}
+use Rattle.rules.specs.laws.table.View.{parts}
+use Rattle.rules.specs.meaning.Runs.{State, width, sizesRight, tablesSound, allSound, StateSound, sightWith, sightOf, firstGiven, placeIn, parcelIn, valueIn, refusalIn, refusalOf, valueOf, stateBy, moved, after}
+use Rattle.rules.specs.laws.run.Steps.{pass}
+use Rattle.rules.specs.meaning.Acts.{judgedOf, answerUnder, afterUnder, Acted, lowTaken, lowAfter}
+
+-- ---- the judge
+-- a state that is let through is sound, and a sound one is let through
+pub judged-sound : (run : Run) (s : State) → judgedOf run s ≡ 0 → StateSound run s
+unfolding judgedOf allSound
+judged-sound run s h =
+    let a = pass 0 _ _ h in
+    let b = pass 1 _ _ (a .1) in
+    let c = parts (tablesSound M (width run) (run .sites) (s .words)) _ (not-false _ (b .0)) in
+    let d = parts (slotsSound M (run .sites) (s .slots)) _ (c .1) in
+    (not-false _ (a .0), c .0, d .0, d .1)
+
+pub sound-passes : (run : Run) (s : State) → StateSound run s → judgedOf run s ≡ 0
+unfolding judgedOf allSound firstGiven
+sound-passes run s h = rw (h .0, h .1, h .2, h .3)
+
+-- what it refuses is refused with that number at each step
+pub judged-first : (run : Run) (s : State) (step : Step) (r : ℕ) → judgedOf run s ≡ suc r → refusalOf run s step ≡ suc r
+unfolding judgedOf refusalOf refusalIn firstGiven allSound
+judged-first run s step r h = go (sizesRight run (length (s .words)) (length (s .slots))) refl (allSound run (s .words) (sightWith noParcel run s)) refl
+  where
+    go : (a : Bool) → sizesRight run (length (s .words)) (length (s .slots)) ≡ a → (b : Bool) → allSound run (s .words) (sightWith noParcel run s) ≡ b → refusalOf run s step ≡ suc r
+    go true p true q = absurd (omega (arith, rw (p, q) at h))
+    go true p false q = rw (p, q) (rw (p, q) at h)
+    go false p b q = rw p (rw p at h)
+
+-- ---- the slots
 
 -- an accepted step sets no slot below what it hands on, and hands on nothing above the lowest free slot
 module _ (run : Run) (s : State) (low : ℕ) (under : low ≤ lowestFree (s .slots)) where

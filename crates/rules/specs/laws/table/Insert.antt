@@ -14,7 +14,7 @@ use Rattle.rules.specs.meaning.Table.{sound, idAt, lengthAt, lengthOf, h
 use Rattle.rules.specs.laws.table.Order.{Side, Side.below, Side.same, Side.above, side}
 use Rattle.rules.specs.laws.table.View.{Unused, Unused.none, Unused.pair, Sound, Sound.rest, Sound.used, seen, say}
 use Rattle.rules.specs.laws.table.Law.{of-same, of-other, of-below, of-unused}
-use Rattle.rules.specs.laws.table.Update.{Roomy, Fitting, with-below, with-at, with-above, raised-with, held-with, raised-sound, raised-of, raised-held}
+use Rattle.rules.specs.laws.table.Update.{Roomy, Fitting, with-below, with-at, with-above, raised-with, held-with, raised-sound, raised-of, raised-held, suc-cond}
 use Rattle.rules.specs.laws.table.Places.{Laid, from-lo, id-next, laid-of, sound-laid, held-laid, rank-is, placed, lengthOf-at}
 
 -- ---- an id that stands at place i is given another length there
@@ -55,13 +55,9 @@ rank-with′ {most} {lo} e n (used {e = x} {n = m} {t = t} l h s) r a y = go (si
     roomy : Roomy t
     roomy = omega arith
 
-    sucs : (b : Bool) (u v : ℕ) → suc (cond b u v) ≡ cond b (suc u) (suc v)
-    sucs true u v = refl
-    sucs false u v = refl
-
     inner : x < e → Side x y → rank (withLength t e (suc n)) y ≡ cond (ltb e y) (suc (rank t y)) (rank t y)
         → cond (ltb x y) (suc (rank (withLength t e (suc n)) y)) 0 ≡ cond (ltb e y) (suc (cond (ltb x y) (suc (rank t y)) 0)) (cond (ltb x y) (suc (rank t y)) 0)
-    inner p (below q) ih = rw (lt-ltb x y q, ih) (sucs (ltb e y) (suc (rank t y)) (rank t y))
+    inner p (below q) ih = rw (lt-ltb x y q, ih) (suc-cond (ltb e y) (suc (rank t y)) (rank t y))
     inner p (same q) ih = rw (le-ltb x y (omega arith), le-ltb e y (omega arith))
     inner p (above q) ih = rw (le-ltb x y (omega arith), le-ltb e y (omega arith))
 

@@ -63,7 +63,7 @@ unfolding held
 held-unused none = refl
 held-unused (pair z) = refl
 
-suc-cond : (b : Bool) (x y : ℕ) → suc (cond b x y) ≡ cond b (suc x) (suc y)
+pub suc-cond : (b : Bool) (x y : ℕ) → suc (cond b x y) ≡ cond b (suc x) (suc y)
 suc-cond true x y = refl
 suc-cond false x y = refl
 
