@@ -1,5 +1,5 @@
 # The commands of README.md.
-.PHONY: run test lib install test-c planted-faults bench
+.PHONY: run test quick lib install test-c planted-faults bench
 
 STEPS = examples/reports/sample.steps
 PREFIX = /usr/local
@@ -10,6 +10,10 @@ run:
 
 test:
 	@tools/test
+
+# the same for whoever is at work: only what changed is proved, no wrong program is tried
+quick:
+	@tools/test --quick
 
 # target/archive: libwiregantry.a for this machine, wiregantry.h, wiregantry.pc
 lib:
