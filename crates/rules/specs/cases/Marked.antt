@@ -1,7 +1,7 @@
 -- The marked examples of document 01, one table of cases under one statement, which the checker computes from the definitions as they
 -- stand; and, below them, what a table is and is not. A reader can add a row and see.
 -- Assumes nothing.
-use Prim.Native.Nat.{ℕ, zero, suc}
+use Prim.Native.Nat.{ℕ}
 use mathlib.Core.Bool.{Bool, true, false, _&&_, not}
 use mathlib.Core.Path.{_≡_, refl}
 use mathlib.Core.List.{List, [], _∷_}
@@ -15,7 +15,7 @@ use Rattle.rules.specs.declared.Run.{Run}
 use Rattle.rules.specs.declared.Parcel.{Parcel}
 use Rattle.rules.specs.declared.Ledger.{Ledger}
 use Rattle.rules.specs.declared.Step.{Step}
-use Rattle.rules.specs.declared.Step.the-variants.{Add, Remove, Query, Send, Merge, Deliver, Again, Lose}
+use Rattle.rules.specs.declared.Step.the-variants.{Add, Send, Merge, Deliver, Again, Lose}
 use Rattle.rules.specs.meaning.Parcels.{noParcel, isFree, isOccupied, slotsSound, waiting, lowestFree, cleared}
 use Rattle.rules.specs.meaning.Ledgers.{ledgerSound, emptyLedger, oneMore, raisedIf}
 use Rattle.rules.specs.meaning.Runs.{State, lent, tableAt, withTable, sizesRight, tablesSound, allSound, slotOf, firstGiven, refusalIn, valueIn, wordsIn, placeIn, parcelIn, counterOf, refusalOf, valueOf, answerOf, after, freshRefusal, afterFresh}

@@ -1,6 +1,7 @@
 -- The sample of document 01, byte for byte, and how lines, pieces and limits are counted, computed from the definitions as they stand.
 -- Assumes nothing.
 use Prim.Native.Nat.{ℕ, _≤_, _<_}
+use native.Mathlib.Omega.{arith}
 use mathlib.Core.Bool.{true, false}
 use mathlib.Core.Path.{_≡_, refl, sym, ap, _∙_}
 use mathlib.Core.List.{List, [], _∷_, _++_}
@@ -17,7 +18,9 @@ use Rattle.rules.specs.meaning.Text.{ascii, behind}
 use Rattle.rules.specs.meaning.Number.{upTo, digits, digitOf, digitRun, fair, judged, readNumber}
 use Rattle.rules.specs.meaning.Lines.{lead, field, textOf, namesStep, firstOf, kindOf, readField, numbersOf}
 use Rattle.rules.specs.meaning.StepLines.{stepFor, stepIn, lineOf, stepOf}
-use Rattle.rules.specs.meaning.Reports.{reportStart, refusedLine, queryLine, ledgerLines, siteLine, siteLines, endLines, acceptedLine, saidOf, stateOf, lastPiece, reportOf, inputLimit, reportRefusal, printedOf}
+use Rattle.rules.specs.meaning.Calls.{namedAfter}
+use Rattle.rules.specs.meaning.Reports.{reportStart, refusedLine, queryLine, ledgerLines, siteLine, siteLines, endLines, acceptedLine, saidOf, lastPiece, reportFrom, reportOf, inputLimit, reportRefusal, printedOf}
+use Rattle.rules.specs.laws.report.Fits.{report-over, room-taken}
 use Rattle.rules.specs.laws.report.Pieces.{unbroken, joined, allUnbroken, piecesFrom, report-of-pieces}
 use Rattle.rules.specs.laws.report.Steps.{linesOf, fits, allFit, steps-fit, stepsFrom, report-of-steps}
 use Rattle.rules.specs.cases.Sample.{sampleSteps}
@@ -80,7 +83,7 @@ pub record ReportCases : Type 0 where
       ++ ascii "sent=1\ncopied=0\nabsorbed=0\nlost=0\nwaiting=1\nnode=0 shown=1\nnode=1 shown=0\nnode=2 shown=0\n"
 
 pub report-cases : ReportCases
-unfolding unbroken joined allUnbroken piecesFrom listed afterAdd afterRemove unused soundFrom lengthOf held push withLength raised heldWith merged newIds rises raiseRefusal raiseTable removeRefusal removeTable mergeRefusal mergeTable isFree isOccupied slotsSound waiting lowestFree ledgerSound oneMore raisedIf tableAt withTable sizesRight tablesSound allSound slotOf firstGiven refusalIn valueIn wordsIn placeIn parcelIn counterOf refusalOf valueOf after behind upTo digits digitOf digitRun fair judged readNumber lead namesStep firstOf kindOf readField numbersOf stepFor stepIn stepOf refusedLine queryLine ledgerLines siteLine siteLines endLines acceptedLine saidOf stateOf lastPiece
+unfolding unbroken joined allUnbroken piecesFrom listed afterAdd afterRemove unused soundFrom lengthOf held push withLength raised heldWith merged newIds rises raiseRefusal raiseTable removeRefusal removeTable mergeRefusal mergeTable isFree isOccupied slotsSound waiting lowestFree ledgerSound oneMore raisedIf tableAt withTable sizesRight tablesSound allSound slotOf firstGiven refusalIn valueIn wordsIn placeIn parcelIn counterOf refusalOf valueOf after behind upTo digits digitOf digitRun fair judged readNumber lead namesStep firstOf kindOf readField numbersOf stepFor stepIn stepOf refusedLine queryLine ledgerLines siteLine siteLines endLines acceptedLine saidOf namedAfter lastPiece
 report-cases = record {
   nothing = report-of-pieces [] [] refl refl;
   empty-line = report-of-pieces ([] ∷ []) [] refl refl;
@@ -91,18 +94,20 @@ report-cases = record {
   waits = report-of-pieces (ascii "step=add node=0 id=7" ∷ ascii "step=send from=0 to=1 id=7" ∷ ascii "step=query node=3 id=0" ∷ []) [] refl refl;
 }
 
--- ---- the limits: 32,768 bytes are run and 32,769 are not, whatever the room; 22 bytes of room for each byte of input, and 256
+-- ---- the limits: 32,768 bytes are run and 32,769 are not, whatever the room; 721,152 bytes hold every report; the empty input's has 89
+pub longest : (input : List ℕ) → length input ≡ 32768 → reportRefusal input 721152 ≡ 0
+longest input h = room-taken input 721152 (omega (arith, h)) (omega (arith, h))
+
+pub too-long : (input : List ℕ) (room : ℕ) → length input ≡ 32769 → reportRefusal input room ≡ 12
+too-long input room h = report-over input room (omega (arith, h))
+
 pub record LimitCases : Type 0 where
-  pub longest : reportRefusal 32768 721152 ≡ 0
-  pub too-long : reportRefusal 32769 721174 ≡ 12
-  pub too-long-first : reportRefusal 32769 0 ≡ 12
-  pub too-short : reportRefusal 32768 721151 ≡ 13
-  pub no-input : reportRefusal 0 256 ≡ 0
-  pub no-room : reportRefusal 0 255 ≡ 13
+  pub just-fits : reportRefusal [] 89 ≡ 0
+  pub a-byte-short : reportRefusal [] 88 ≡ 13
 
 pub limit-cases : LimitCases
-unfolding firstGiven reportRefusal
-limit-cases = record { longest = refl; too-long = refl; too-long-first = refl; too-short = refl; no-input = refl; no-room = refl }
+unfolding firstGiven reportRefusal reportOf reportFrom lastPiece endLines ledgerLines siteLines siteLine digits upTo waiting isFree held tableAt
+limit-cases = record { just-fits = refl; a-byte-short = refl }
 
 -- "An input over 32,768 bytes prints only `refused=12`", as a line
 pub printed-over : (input : List ℕ) → 32768 < length input → printedOf input ≡ ascii "refused=12\n"

@@ -1,6 +1,5 @@
 -- The four numbers of a line as the reader lays them into an area: "four little-endian 64-bit numbers in the first 32 bytes".
 -- Assumes nothing.
-use mathlib.Core.Path.{_≡_, refl, ap}
 use mathlib.Core.Bool.{Bool, true, false}
 use mathlib.Core.List.{List, [], _∷_, _++_}
 use Prim.Native.Nat.{ℕ, zero, suc, _/_, _%_}

@@ -1,6 +1,6 @@
 -- The ledger: "Sound means each counter is at most M and sent + copied = absorbed + lost + waiting."
 -- Assumes nothing.
-use Prim.Native.Nat.{ℕ, zero, suc, _+_}
+use Prim.Native.Nat.{ℕ, suc, _+_}
 use mathlib.Core.Bool.{Bool, true, false, _&&_, cond}
 use lib.Dec.{leb, ltb, eqb}
 use Rattle.rules.specs.declared.Ledger.{Ledger}

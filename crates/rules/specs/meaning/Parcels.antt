@@ -1,7 +1,7 @@
 -- The parcel list: a list of slots. "A free slot has all three 0; an occupied one has a length of 1 to M and a site of the run."
 -- Assumes nothing.
 use Prim.Native.Nat.{ℕ, zero, suc}
-use mathlib.Core.Bool.{Bool, true, false, _&&_, _||_, cond}
+use mathlib.Core.Bool.{Bool, true, _&&_, _||_, cond}
 use mathlib.Core.List.{List, [], _∷_}
 use lib.Dec.{leb, ltb, eqb}
 use Rattle.rules.specs.declared.Parcel.{Parcel}

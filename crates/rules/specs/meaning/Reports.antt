@@ -2,7 +2,7 @@
 -- Assumes nothing.
 use Prim.Native.Nat.{ℕ, zero, suc, _+_, _*_}
 use mathlib.Core.Path.{_≡_}
-use mathlib.Core.Bool.{Bool, true, false, cond}
+use mathlib.Core.Bool.{cond}
 use mathlib.Core.List.{List, [], _∷_, _++_}
 use lib.ListN.{length, replicate}
 use lib.Dec.{ltb, eqb}
@@ -17,10 +17,11 @@ use Rattle.rules.specs.meaning.Lengths.{listed}
 use Rattle.rules.specs.meaning.Table.{held}
 use Rattle.rules.specs.meaning.Parcels.{noParcel, waiting}
 use Rattle.rules.specs.meaning.Ledgers.{emptyLedger}
-use Rattle.rules.specs.meaning.Runs.{State, lent, tableAt, _when_, firstGiven, refusalOf, valueOf, after}
+use Rattle.rules.specs.meaning.Runs.{State, lent, tableAt, _when_, firstGiven, refusalOf, valueOf}
 use Rattle.rules.specs.meaning.Text.{ascii}
 use Rattle.rules.specs.meaning.Number.{digits}
 use Rattle.rules.specs.meaning.StepLines.{stepOf}
+use Rattle.rules.specs.meaning.Calls.{namedAfter}
 use Rattle.rules.specs.meaning.Put.{put}
 
 -- ---- the run
@@ -70,7 +71,7 @@ siteLines (suc n) k ws = siteLine k (tableAt reportRun ws k) ++ siteLines n (suc
 unfoldable pub endLines : State → List ℕ
 endLines s = ledgerLines (s .ledger) (waiting (s .slots)) ++ siteLines (reportRun .sites) 0 (s .words)
 
--- ---- what each line of the input adds to the report, and what it does to the state
+-- ---- what each line of the input adds to the report; what it does to the state is that of a step by its numbers
 -- an accepted step says nothing, unless it is a query
 unfoldable pub acceptedLine : ℕ → Step → ℕ → List ℕ
 acceptedLine n (Add k e) m = []
@@ -90,10 +91,6 @@ unfoldable pub saidOf : ℕ → State → Named → List ℕ
 saidOf n s (Is step) = lineBy (refusalOf reportRun s step) n step (valueOf reportRun s step)
 saidOf n s NoStep = refusedLine n 11
 
-unfoldable pub stateOf : State → Named → State
-stateOf s (Is step) = after reportRun s step
-stateOf s NoStep = s
-
 -- "a last piece of one byte or more without it is refused with 11"
 unfoldable pub lastPiece : ℕ → List ℕ → List ℕ
 lastPiece n [] = []
@@ -103,7 +100,7 @@ lastPiece n (c ∷ cs) = refusedLine n 11
 unfoldable pub reportFrom : ℕ → State → List ℕ → List ℕ → List ℕ
 reportFrom n s line [] = lastPiece n line ++ endLines s
 reportFrom n s line (c ∷ cs) =
-    cond (eqb c lineEnd) (saidOf n s (stepOf line) ++ reportFrom (suc n) (stateOf s (stepOf line)) [] cs) (reportFrom n s (line ++ (c ∷ [])) cs)
+    cond (eqb c lineEnd) (saidOf n s (stepOf line) ++ reportFrom (suc n) (namedAfter reportRun s (stepOf line)) [] cs) (reportFrom n s (line ++ (c ∷ [])) cs)
 
 unfoldable pub reportOf : List ℕ → List ℕ
 reportOf input = reportFrom 1 reportStart [] input
@@ -113,20 +110,21 @@ reportOf input = reportFrom 1 reportStart [] input
 abbrev pub inputLimit : ℕ
 inputLimit = 32768
 
--- room for the report of so many bytes: an empty line is one byte of input and at most 22 of the report, and no other byte earns more
+-- room that the report of so many bytes always fits: an empty line is one byte of input and at most 22 of the report, and no other byte earns more
 abbrev pub reportRoom : ℕ → ℕ
 reportRoom n = 22 * n + 256
 
-unfoldable pub reportRefusal : ℕ → ℕ → ℕ
-reportRefusal n room = firstGiven ((12 when ltb inputLimit n) ∷ (13 when ltb room (reportRoom n)) ∷ [])
+-- 13 exactly where the buffer has no room for the report of this input
+unfoldable pub reportRefusal : List ℕ → ℕ → ℕ
+reportRefusal input room = firstGiven ((12 when ltb inputLimit (length input)) ∷ (13 when ltb room (length (reportOf input))) ∷ [])
 
 -- the report where none of the two is given, else nothing
 unfoldable pub reportFor : List ℕ → ℕ → List ℕ
-reportFor input room = cond (eqb (reportRefusal (length input) room) 0) (reportOf input) []
+reportFor input room = cond (eqb (reportRefusal input room) 0) (reportOf input) []
 
 -- the contract of `report`: its answer, and the whole buffer afterwards
 pub record Told (input before : List ℕ) (r : Reported) (after : List ℕ) : Type 0 where
-  pub refusal : r .refusal ≡ reportRefusal (length input) (length before)
+  pub refusal : r .refusal ≡ reportRefusal input (length before)
   pub written : r .written ≡ length (reportFor input (length before))
   pub bytes : after ≡ put before 0 (reportFor input (length before))
 

@@ -1,12 +1,12 @@
 -- What the writer of step lines writes, and what it answers. "A kind outside 1 to 8, or an unused number that isn't 0, is 11; then too short a
 -- buffer is 13. Either way: an empty part, nothing written."
 -- Assumes nothing.
-use mathlib.Core.Path.{_≡_, ap, _∙_}
+use mathlib.Core.Path.{_≡_}
 use mathlib.Core.Bool.{not, cond}
 use mathlib.Core.List.{List, [], _∷_}
 use Prim.Native.Nat.{ℕ}
 use lib.Dec.{ltb, eqb}
-use lib.ListN.{length, take}
+use lib.ListN.{length}
 use Rattle.rules.specs.meaning.Lines.{textOf, namesStep}
 use Rattle.rules.specs.meaning.Put.{put}
 use Rattle.rules.specs.meaning.Runs.{_when_, firstGiven}

@@ -1,12 +1,11 @@
 -- The laws of the four numbers in an area of bytes: each can be read back, and the bytes behind them are kept.
 -- Assumes nothing.
-use Prim.Native.Nat.{ℕ, zero, suc, _+_, _*_, _/_, _%_, _^_, _<_}
+use Prim.Native.Nat.{ℕ, zero, suc, _+_, _*_, _/_, _^_, _<_}
 use native.Mathlib.Omega.{arith}
-use mathlib.Core.Path.{_≡_, refl, ap, _∙_}
+use mathlib.Core.Path.{_≡_, refl, ap}
 use mathlib.Core.List.{List, [], _∷_}
 use lib.ListN.{length}
 use Rattle.rules.specs.meaning.Area.{little, areaAfter, readRefusal}
-use Rattle.rules.specs.meaning.Operations.{unlessRefused}
 
 pub little-length : (k n : ℕ) → length (little k n) ≡ k
 unfolding little

@@ -2,7 +2,7 @@
 -- Assumes nothing.
 use Prim.Native.Nat.{ℕ, zero, suc, _+_, _*_, _≤_, _<_}
 use native.Mathlib.Omega.{arith}
-use mathlib.Core.Path.{_≡_, refl, ap, _∙_}
+use mathlib.Core.Path.{_≡_, refl}
 use mathlib.Core.List.{List, [], _∷_, _++_}
 use lib.ListN.{length, length-append}
 use lib.Dec.{eqb}
@@ -11,18 +11,18 @@ use Rattle.rules.specs.declared.Step.{Step}
 use Rattle.rules.specs.declared.Step.the-variants.{Add, Remove, Query, Send, Merge, Deliver, Again, Lose}
 use Rattle.rules.specs.declared.Named.{Named}
 use Rattle.rules.specs.declared.Named.the-variants.{Is, NoStep}
-use Rattle.rules.specs.declared.Reported.{Reported}
 use Rattle.rules.specs.meaning.Runs.{State, firstGiven, refusalOf, valueOf}
 use Rattle.rules.specs.laws.line.Numbers.{below, by-test}
 use Rattle.rules.specs.meaning.StepLines.{lineOf, stepOf}
 use Rattle.rules.specs.laws.line.Steps.{query-line, read-step}
-use Rattle.rules.specs.meaning.Reports.{reportRun, reportStart, lineEnd, refusedLine, endLines, acceptedLine, lineBy, saidOf, stateOf, lastPiece, reportFrom, reportOf, inputLimit, reportRoom, reportRefusal, reportFor, Told}
+use Rattle.rules.specs.meaning.Calls.{namedAfter}
+use Rattle.rules.specs.meaning.Reports.{reportRun, reportStart, lineEnd, refusedLine, endLines, acceptedLine, lineBy, saidOf, lastPiece, reportFrom, reportOf, inputLimit, reportRoom, reportRefusal, reportFor}
 use Rattle.rules.specs.laws.report.Parts.{refusal-within, refused-within, query-within, end-within}
 
 -- ---- how a report goes on, by the next byte of the input
 module _ (n : ℕ) (s : State) (line : List ℕ) where
   -- a line is ended: its step is run, and the next line begins
-  pub report-line : (c : ℕ) (cs : List ℕ) → c ≡ lineEnd → reportFrom n s line (c ∷ cs) ≡ saidOf n s (stepOf line) ++ reportFrom (suc n) (stateOf s (stepOf line)) [] cs
+  pub report-line : (c : ℕ) (cs : List ℕ) → c ≡ lineEnd → reportFrom n s line (c ∷ cs) ≡ saidOf n s (stepOf line) ++ reportFrom (suc n) (namedAfter reportRun s (stepOf line)) [] cs
   unfolding reportFrom
   report-line c cs h = rw (eq-eqb c lineEnd h)
 
@@ -90,7 +90,7 @@ report-within n s line (c ∷ cs) p =
     by-test (eqb c lineEnd)
     (λ ends.
     let said : length (saidOf n s (stepOf line)) ≤ 22 * (length line + 1) = said-within n s line (omega arith) in
-    let rest : length (reportFrom (suc n) (stateOf s (stepOf line)) [] cs) ≤ 22 * (0 + length cs) + 187 = report-within (suc n) (stateOf s (stepOf line)) [] cs (omega arith) in
+    let rest : length (reportFrom (suc n) (namedAfter reportRun s (stepOf line)) [] cs) ≤ 22 * (0 + length cs) + 187 = report-within (suc n) (namedAfter reportRun s (stepOf line)) [] cs (omega arith) in
     rw (ends, length-append) (omega arith))
     (λ more.
     let rest : length (reportFrom n s (line ++ (c ∷ [])) cs) ≤ 22 * (length (line ++ (c ∷ [])) + length cs) + 187 = report-within n s (line ++ (c ∷ [])) cs (omega arith) in
@@ -103,33 +103,38 @@ unfolding reportOf
 report-fits input h = let a = report-within 1 reportStart [] input (omega arith) in omega arith
 
 -- ---- the two refusals, in their order, and what is told then
-pub report-over : (n room : ℕ) → inputLimit < n → reportRefusal n room ≡ 12
-unfolding reportRefusal firstGiven
-report-over n room h = rw (lt-ltb inputLimit n h)
+module _ (input : List ℕ) (room : ℕ) where
+  pub report-over : inputLimit < length input → reportRefusal input room ≡ 12
+  unfolding reportRefusal firstGiven
+  report-over h = rw (lt-ltb inputLimit (length input) h)
 
-pub report-short : (n room : ℕ) → n ≤ inputLimit → room < reportRoom n → reportRefusal n room ≡ 13
-unfolding reportRefusal firstGiven
-report-short n room h k = rw (le-ltb inputLimit n h, lt-ltb room (reportRoom n) k)
+  pub report-short : length input ≤ inputLimit → room < length (reportOf input) → reportRefusal input room ≡ 13
+  unfolding reportRefusal firstGiven
+  report-short h k = rw (le-ltb inputLimit (length input) h, lt-ltb room (length (reportOf input)) k)
 
-pub report-taken : (n room : ℕ) → n ≤ inputLimit → reportRoom n ≤ room → reportRefusal n room ≡ 0
-unfolding reportRefusal firstGiven
-report-taken n room h k = rw (le-ltb inputLimit n h, le-ltb room (reportRoom n) k)
+  pub report-taken : length input ≤ inputLimit → length (reportOf input) ≤ room → reportRefusal input room ≡ 0
+  unfolding reportRefusal firstGiven
+  report-taken h k = rw (le-ltb inputLimit (length input) h, le-ltb room (length (reportOf input)) k)
 
--- a refused call writes nothing
-pub told-refused : (input : List ℕ) (room r : ℕ) → reportRefusal (length input) room ≡ suc r → reportFor input room ≡ []
-unfolding reportFor
-told-refused input room r h = rw (h, ne-eqb (suc r) 0 (λ z. omega arith))
+  -- so much room is enough for every report of so long an input
+  pub room-taken : length input ≤ inputLimit → reportRoom (length input) ≤ room → reportRefusal input room ≡ 0
+  room-taken h k = report-taken h (omega (arith, report-fits input h))
 
--- any other writes the whole report
-pub told-taken : (input : List ℕ) (room : ℕ) → reportRefusal (length input) room ≡ 0 → reportFor input room ≡ reportOf input
-unfolding reportFor
-told-taken input room h = rw h
+  -- a refused call writes nothing
+  pub told-refused : (r : ℕ) → reportRefusal input room ≡ suc r → reportFor input room ≡ []
+  unfolding reportFor
+  told-refused r h = rw (h, ne-eqb (suc r) 0 (λ z. omega arith))
 
--- and has the room for it
-pub told-fits : (input : List ℕ) (room : ℕ) → length (reportFor input room) ≤ room
-told-fits input room =
-    below inputLimit (length input)
-    (λ over. rw (told-refused input room 11 (report-over (length input) room over)) (omega arith))
-    (λ fits. below room (reportRoom (length input))
-    (λ short. rw (told-refused input room 12 (report-short (length input) room fits short)) (omega arith))
-    (λ wide. rw (told-taken input room (report-taken (length input) room fits wide)) (omega (arith, report-fits input fits))))
+  -- any other writes the whole report
+  pub told-taken : reportRefusal input room ≡ 0 → reportFor input room ≡ reportOf input
+  unfolding reportFor
+  told-taken h = rw h
+
+  -- and has the room for it
+  pub told-fits : length (reportFor input room) ≤ room
+  told-fits =
+      below inputLimit (length input)
+      (λ over. rw (told-refused 11 (report-over over)) (omega arith))
+      (λ fits. below room (length (reportOf input))
+      (λ short. rw (told-refused 12 (report-short fits short)) (omega arith))
+      (λ wide. rw (told-taken (report-taken fits wide)) wide))

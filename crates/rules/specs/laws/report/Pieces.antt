@@ -9,7 +9,8 @@ use borrow.Author.Tests.{eqb-false, not-true}
 use Rattle.rules.specs.laws.table.View.{parts}
 use Rattle.rules.specs.meaning.Runs.{State}
 use Rattle.rules.specs.meaning.StepLines.{stepOf}
-use Rattle.rules.specs.meaning.Reports.{reportStart, lineEnd, endLines, saidOf, stateOf, lastPiece, reportFrom, reportOf}
+use Rattle.rules.specs.meaning.Calls.{namedAfter}
+use Rattle.rules.specs.meaning.Reports.{reportRun, reportStart, lineEnd, endLines, saidOf, lastPiece, reportFrom, reportOf}
 use Rattle.rules.specs.laws.report.Fits.{report-line, report-byte}
 
 -- ---- a text without a line's end in it
@@ -29,7 +30,7 @@ report-piece n s line (c ∷ cs) rest h =
 
 -- a whole line
 pub report-text : (n : ℕ) (s : State) (text rest : List ℕ) → unbroken text ≡ true
-    → reportFrom n s [] (text ++ (lineEnd ∷ rest)) ≡ saidOf n s (stepOf text) ++ reportFrom (suc n) (stateOf s (stepOf text)) [] rest
+    → reportFrom n s [] (text ++ (lineEnd ∷ rest)) ≡ saidOf n s (stepOf text) ++ reportFrom (suc n) (namedAfter reportRun s (stepOf text)) [] rest
 report-text n s text rest h = report-piece n s [] text (lineEnd ∷ rest) h ∙ report-line n s text lineEnd rest refl
 
 -- ---- the pieces of a text
@@ -45,7 +46,7 @@ allUnbroken (text ∷ texts) = unbroken text && allUnbroken texts
 -- what they say in their turn, from line n on in a state, and the end
 unfoldable pub piecesFrom : ℕ → State → List (List ℕ) → List ℕ → List ℕ
 piecesFrom n s [] last = lastPiece n last ++ endLines s
-piecesFrom n s (text ∷ texts) last = saidOf n s (stepOf text) ++ piecesFrom (suc n) (stateOf s (stepOf text)) texts last
+piecesFrom n s (text ∷ texts) last = saidOf n s (stepOf text) ++ piecesFrom (suc n) (namedAfter reportRun s (stepOf text)) texts last
 
 -- an unended piece at the end of the input
 last-alone : (n : ℕ) (s : State) (last : List ℕ) → unbroken last ≡ true → reportFrom n s [] last ≡ lastPiece n last ++ endLines s
@@ -59,7 +60,7 @@ pieces-from n s [] last h u = last-alone n s last u
 pieces-from n s (text ∷ texts) last h u =
     let a = parts (unbroken text) (allUnbroken texts) h in
     report-text n s text (joined texts last) (a .0)
-    ∙ ap (λ (t : List ℕ). saidOf n s (stepOf text) ++ t) (pieces-from (suc n) (stateOf s (stepOf text)) texts last (a .1) u)
+    ∙ ap (λ (t : List ℕ). saidOf n s (stepOf text) ++ t) (pieces-from (suc n) (namedAfter reportRun s (stepOf text)) texts last (a .1) u)
 
 -- the report of a text is what its pieces say, run from fresh
 pub report-of-pieces : (texts : List (List ℕ)) (last : List ℕ) → allUnbroken texts ≡ true → unbroken last ≡ true

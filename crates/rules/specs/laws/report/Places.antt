@@ -10,14 +10,14 @@ use lib.ListN.{length, replicate, getD, take, drop, length-append}
 use lib.Seq.{slice, slice-empty, length-slice, drop-length, length-take-le, take-suc, drop-cons, drop-append-le}
 use Rattle.rules.specs.declared.Parcel.{Parcel}
 use Rattle.rules.specs.declared.Named.{Named}
-use Rattle.rules.specs.declared.Named.the-variants.{Is, NoStep}
 use Rattle.rules.specs.meaning.Table.{unused, soundFrom}
 use Rattle.rules.specs.meaning.Parcels.{noParcel, cleared, isFree, isOccupied, slotsSound, waiting}
 use Rattle.rules.specs.meaning.Ledgers.{ledgerSound}
 use Rattle.rules.specs.meaning.Runs.{State, firstGiven, freshRefusal, afterFresh, sizesRight, tablesSound, StateSound}
-use Rattle.rules.specs.laws.run.Sound.{after-sound}
+use Rattle.rules.specs.laws.run.Bursts.{named-sound}
 use Rattle.rules.specs.meaning.StepLines.{stepOf}
-use Rattle.rules.specs.meaning.Reports.{reportRun, reportStart, lineEnd, refusedLine, endLines, saidOf, stateOf, reportFrom, reportOf}
+use Rattle.rules.specs.meaning.Calls.{namedAfter}
+use Rattle.rules.specs.meaning.Reports.{reportRun, reportStart, lineEnd, refusedLine, endLines, saidOf, reportFrom, reportOf}
 use Rattle.rules.specs.laws.report.Fits.{report-line, report-byte, report-done, report-unended}
 
 -- one more byte of a part
@@ -31,7 +31,7 @@ module _ (n : ℕ) (s : State) (input : List ℕ) (f i : ℕ) where
   -- at a line's end its step is run, and the next line begins behind it
   pub report-line-at : i < length input → getD input i 0 ≡ lineEnd
       → reportFrom n s (slice f i input) (drop i input)
-      ≡ saidOf n s (stepOf (slice f i input)) ++ reportFrom (suc n) (stateOf s (stepOf (slice f i input))) (slice (suc i) (suc i) input) (drop (suc i) input)
+      ≡ saidOf n s (stepOf (slice f i input)) ++ reportFrom (suc n) (namedAfter reportRun s (stepOf (slice f i input))) (slice (suc i) (suc i) input) (drop (suc i) input)
   report-line-at h e =
       rw (drop-cons input i 0 h, slice-empty (suc i) input) (report-line n s (slice f i input) (getD input i 0) (drop (suc i) input) e)
 
@@ -79,7 +79,5 @@ pub start-sound : StateSound reportRun reportStart
 unfolding unused soundFrom isFree isOccupied slotsSound waiting ledgerSound sizesRight tablesSound
 start-sound = (refl, refl, refl, refl)
 
-pub state-sound : (s : State) (r : Named) → StateSound reportRun s → StateSound reportRun (stateOf s r)
-unfolding stateOf
-state-sound s (Is step) h = after-sound reportRun s step h
-state-sound s NoStep h = h
+pub state-sound : (s : State) (r : Named) → StateSound reportRun s → StateSound reportRun (namedAfter reportRun s r)
+state-sound s r h = named-sound reportRun s h r

@@ -18,7 +18,8 @@ use Rattle.rules.specs.laws.line.Numbers.{by-test}
 use Rattle.rules.specs.meaning.Lines.{lead, toName, idName, hasSecond, hasId, field, textOf}
 use Rattle.rules.specs.meaning.StepLines.{lineOf, Fits}
 use Rattle.rules.specs.laws.line.Steps.{written-step}
-use Rattle.rules.specs.meaning.Reports.{reportRun, reportStart, lineEnd, endLines, saidOf, stateOf, reportFrom, reportOf}
+use Rattle.rules.specs.meaning.Calls.{namedAfter}
+use Rattle.rules.specs.meaning.Reports.{reportRun, reportStart, lineEnd, endLines, saidOf, reportFrom, reportOf}
 use Rattle.rules.specs.laws.report.Fits.{report-done}
 use Rattle.rules.specs.laws.report.Pieces.{unbroken, report-text}
 
@@ -117,11 +118,11 @@ stepsFrom n s [] = endLines s
 stepsFrom n s (step ∷ steps) = saidOf n s (Is step) ++ stepsFrom (suc n) (after reportRun s step) steps
 
 steps-from : (n : ℕ) (s : State) (steps : List Step) → AllFit steps → reportFrom n s [] (linesOf steps) ≡ stepsFrom n s steps
-unfolding linesOf stepsFrom stateOf
+unfolding linesOf stepsFrom namedAfter
 steps-from n s [] h = report-done n s
 steps-from n s (step ∷ steps) h =
     report-text n s (lineOf step) (linesOf steps) (line-unbroken step)
-    ∙ ap (λ (r : Named). saidOf n s r ++ reportFrom (suc n) (stateOf s r) [] (linesOf steps)) (written-step step (h .0))
+    ∙ ap (λ (r : Named). saidOf n s r ++ reportFrom (suc n) (namedAfter reportRun s r) [] (linesOf steps)) (written-step step (h .0))
     ∙ ap (λ (t : List ℕ). saidOf n s (Is step) ++ t) (steps-from (suc n) (after reportRun s step) steps (h .1))
 
 -- the report of the lines of some steps is what the steps say, run from fresh

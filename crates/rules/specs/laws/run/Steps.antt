@@ -20,9 +20,9 @@ use Rattle.rules.specs.meaning.Lengths.{M}
 use Rattle.rules.specs.meaning.Table.{lengthOf}
 use Rattle.rules.specs.laws.table.View.{parts}
 use Rattle.rules.specs.meaning.Parcels.{noParcel, isOccupied, slotsSound, waiting, lowestFree}
-use Rattle.rules.specs.meaning.Ledgers.{ledgerSound, raisedIf}
+use Rattle.rules.specs.meaning.Ledgers.{raisedIf}
 use Rattle.rules.specs.laws.run.Ledgers.{Balanced, balanced, one-more}
-use Rattle.rules.specs.meaning.Runs.{State, width, tableAt, sizesRight, tablesSound, allSound, slotOf, sightOf, Test, _when_, firstGiven, stepTests, refusalIn, placeIn, parcelIn, counterOf, refusalOf, answerOf, moved, stateBy, after, StateSound}
+use Rattle.rules.specs.meaning.Runs.{State, width, tableAt, tablesSound, allSound, slotOf, sightOf, Test, _when_, firstGiven, stepTests, refusalIn, placeIn, parcelIn, counterOf, refusalOf, answerOf, moved, stateBy, after, StateSound}
 use Rattle.rules.specs.meaning.Histories.{isSend, isAgain, isDeliver, isLose, isAccepted}
 
 -- ---- a refused step
