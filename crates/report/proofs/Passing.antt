@@ -14,7 +14,8 @@ use Rattle.rules.specs.meaning.Runs.{State, StateSound}
 use Rattle.rules.specs.meaning.Acts.{Acted, answerUnder, afterUnder}
 use Rattle.rules.specs.meaning.Put.{put}
 use Rattle.rules.specs.meaning.StepLines.{stepOf}
-use Rattle.rules.specs.meaning.Reports.{reportRun, reportStart, lineEnd, inputLimit, reportRoom, refusedLine, endLines, lineBy, saidOf, stateOf, reportFrom, reportOf}
+use Rattle.rules.specs.meaning.Calls.{namedAfter}
+use Rattle.rules.specs.meaning.Reports.{reportRun, reportStart, lineEnd, inputLimit, reportRoom, refusedLine, endLines, lineBy, saidOf, reportFrom, reportOf}
 use Rattle.rules.specs.laws.report.Fits.{report-done, report-starts, report-fits}
 use Rattle.rules.specs.laws.report.Places.{report-line-at, report-byte-at, report-unended-at, start-sound, state-sound}
 use Rattle.report.specs.Laid.{Laid}
@@ -84,13 +85,13 @@ module _ (input : List ℕ) (start : ℕ) where
         same = ap stepOf (sym (part-is input start end (e .within .begun))) ∙ sym read
 
         goes-on : (n : ℕ) (s : State)
-            → saidOf n s (stepOf (slice start end input)) ++ reportFrom (suc n) (stateOf s (stepOf (slice start end input))) (slice (suc end) (suc end) input) (drop (suc end) input)
-            ≡ saidOf n s named ++ reportFrom (suc n) (stateOf s named) [] (drop (end + 1) input)
+            → saidOf n s (stepOf (slice start end input)) ++ reportFrom (suc n) (namedAfter reportRun s (stepOf (slice start end input))) (slice (suc end) (suc end) input) (drop (suc end) input)
+            ≡ saidOf n s named ++ reportFrom (suc n) (namedAfter reportRun s named) [] (drop (end + 1) input)
         goes-on n s = rw (same, slice-empty (suc end) input, add-one end)
 
     -- or the input ends before it
     pub next-unended : (r : Ahead) → start < length input → end ≡ length input → r ≡ ahead NoStep end → Next input start r
-    unfolding stateOf
+    unfolding namedAfter
     next-unended r h at is = subst (Next input start) (sym is) (record {
       names = NoStep;
       is = refl;
@@ -120,15 +121,15 @@ passed-start input first h r = record {
 
 -- what the inner step answers and leaves is what the line says and leaves
 acted-says : (n : ℕ) (s : State) (names : Named) (a : Answer) (left : State) → Acted (refusedAs names) reportRun s (askedStep names) a left
-    → (saidOf n s names ≡ lineBy (a .refusal) n (askedStep names) (a .value)) × (left ≡ stateOf s names)
-unfolding answerUnder afterUnder stateOf
+    → (saidOf n s names ≡ lineBy (a .refusal) n (askedStep names) (a .value)) × (left ≡ namedAfter reportRun s names)
+unfolding answerUnder afterUnder namedAfter
 acted-says n s (Is step) a left did = (said-step n s (Is step) step a refl (did .answer), did .state)
 acted-says n s NoStep a left did = (said-none n s NoStep refl ∙ rw (did .answer), did .state)
 
 -- a line, where the inner step was asked for what the line asks for
 module _ (input first out : List ℕ) (s : State) (n start place : ℕ) (p : Passed input first out s n start place) (l : Ahead) (next : Next input start l)
     (a : Answer) (left : State) (did : Acted (l .refusal) reportRun s (l .step) a left) where
-  says : (saidOf n s (next .names) ≡ lineBy (a .refusal) n (l .step) (a .value)) × (left ≡ stateOf s (next .names))
+  says : (saidOf n s (next .names) ≡ lineBy (a .refusal) n (l .step) (a .value)) × (left ≡ namedAfter reportRun s (next .names))
   says =
       let t = acted-says n s (next .names) a left (subst (λ (m : Ahead). Acted (m .refusal) reportRun s (m .step) a left) (next .is) did) in
       (t .0 ∙ ap (λ (m : Ahead). lineBy (a .refusal) n (m .step) (a .value)) (sym (next .is)), t .1)

@@ -9,7 +9,8 @@ use Rattle.rules.specs.declared.Named.the-variants.{Is, NoStep}
 use Rattle.rules.specs.declared.Step.{Step}
 use Rattle.rules.specs.declared.Step.the-variants.{Query}
 use Rattle.rules.specs.meaning.Runs.{State}
-use Rattle.rules.specs.meaning.Reports.{lineEnd, saidOf, stateOf, reportFrom}
+use Rattle.rules.specs.meaning.Calls.{namedAfter}
+use Rattle.rules.specs.meaning.Reports.{reportRun, lineEnd, saidOf, reportFrom}
 use Rattle.report.specs.declared.ahead.Ahead.{Ahead}
 
 -- the line that begins at `start` is not ended before `end`
@@ -41,4 +42,4 @@ pub record Next (input : List ℕ) (start : ℕ) (r : Ahead) : Type 0 where
   pub is : r ≡ ahead names (r .next)
   pub behind : start < r .next
   pub inside : r .next ≤ length input
-  pub report : (n : ℕ) (s : State) → reportFrom n s [] (drop start input) ≡ saidOf n s names ++ reportFrom (suc n) (stateOf s names) [] (drop (r .next) input)
+  pub report : (n : ℕ) (s : State) → reportFrom n s [] (drop start input) ≡ saidOf n s names ++ reportFrom (suc n) (namedAfter reportRun s names) [] (drop (r .next) input)

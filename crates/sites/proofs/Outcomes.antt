@@ -2,7 +2,7 @@
 -- The callees' results are variables here, each with what its contract says of it.
 -- Assumes nothing.
 use Prim.Native.Nat.{ℕ, zero, suc, _≤_}
-use native.Mathlib.Nat.{le-refl, suc-ne-zero}
+use native.Mathlib.Nat.{le-refl}
 use native.Mathlib.Omega.{arith}
 use mathlib.Core.Bool.{Bool, cond}
 use mathlib.Core.Path.{_≡_, refl, sym, _∙_}
@@ -18,19 +18,18 @@ use Rattle.rules.specs.declared.Run.{Run}
 use Rattle.rules.specs.declared.Scan.{Scan}
 use Rattle.rules.specs.declared.Step.{Step}
 use Rattle.rules.specs.declared.Step.the-variants.{Add, Remove, Query, Send, Merge, Deliver, Again, Lose}
-use Rattle.rules.specs.laws.table.View.{parts}
 use Rattle.rules.specs.meaning.Lengths.{M}
 use Rattle.rules.specs.meaning.Operations.{answer, unlessRefused}
 use Rattle.rules.specs.meaning.Ledgers.{raisedLedger, emptiedIf}
 use Rattle.rules.specs.laws.run.Ledgers.{raised-none}
-use Rattle.rules.specs.meaning.Parcels.{noParcel, slotsSound, lowestFree, scanOf, cleared}
-use Rattle.rules.specs.meaning.Runs.{State, lent, width, tablesSound, allSound, slotOf, sightOf, refusalIn, valueIn, wordsIn, placeIn, parcelIn, refusalOf, valueOf, stateBy, after, freshRefusal, empty, afterFresh, Stepped, Freshened, StateSound}
+use Rattle.rules.specs.meaning.Parcels.{noParcel, lowestFree, scanOf, cleared}
+use Rattle.rules.specs.meaning.Runs.{State, lent, slotOf, sightOf, refusalIn, valueIn, wordsIn, placeIn, parcelIn, refusalOf, valueOf, stateBy, after, freshRefusal, empty, afterFresh, Stepped, Freshened, StateSound}
 use Rattle.sites.specs.declared.verdict.Verdict.{Verdict}
 use Rattle.rules.specs.laws.run.Steps.{sound-judged}
 use Rattle.sites.specs.Verdicts.{Ready, seenAs, judgement, stepRefusal, stepVerdict, stepWords, verdictBy, needsSlot, lookedAt, verdictUnder, wordsUnder, answerIn, freshWords, slotsToClear}
+use Rattle.rules.specs.laws.run.Acts.{judged-first}
 use Rattle.rules.specs.meaning.Acts.{judgedOf, answerUnder, afterUnder, Acted}
 use Rattle.sites.proofs.Judging.{sized}
-use Rattle.sites.proofs.Deciding.{passed, refusal-judged}
 
 module _ (run : Run) (ws : List ℕ) (ss : List Parcel) (l : Ledger) (step : Step) where
   -- the verdict on what is lent, by its refusal
@@ -102,25 +101,11 @@ judged-all run ws ss l scan judged e f = rw e at f
 pub scanned-low : (sites : ℕ) (ss : List Parcel) (scan : Scan) → scan ≡ scanOf M sites ss → scan .free ≤ lowestFree ss
 scanned-low sites ss scan e = rw e (le-refl (lowestFree ss))
 
--- a state that is let through is sound
-pub judged-sound : (run : Run) (s : State) → judgedOf run s ≡ 0 → StateSound run s
-unfolding judgedOf judgement allSound
-judged-sound run s h =
-    let p = passed run (s .words) (seenAs (scanOf M (run .sites) (s .slots)) noParcel (length (s .slots)) (s .ledger)) h in
-    let c = parts (tablesSound M (width run) (run .sites) (s .words)) _ (p .1) in
-    let d = parts (slotsSound M (run .sites) (s .slots)) _ (c .1) in
-    (p .0, c .0, d .0, d .1)
-
--- what the judge refuses is refused with that number at each step
-judged-first : (run : Run) (s : State) (step : Step) → (judgedOf run s ≡ 0 → ⊥) → refusalOf run s step ≡ judgedOf run s
-unfolding judgedOf refusalOf judgement allSound
-judged-first run s step h = refusal-judged run (s .words) (sightOf run s step) step h
-
 pub judged-step : (run : Run) (s : State) (step : Step) (judged : ℕ) (r : Answer) (left : State) → judged ≡ judgedOf run s → Acted judged run s step r left → Stepped run s step r left
 unfolding answerUnder afterUnder after
 judged-step run s step zero r left e did = record { answer = did .answer; state = did .state }
 judged-step run s step (suc k) r left e did =
-    let first : refusalOf run s step ≡ suc k = judged-first run s step (λ z. suc-ne-zero k (e ∙ z)) ∙ sym e in
+    let first : refusalOf run s step ≡ suc k = judged-first run s step k (sym e) in
     record { answer = did .answer ∙ rw first refl; state = did .state ∙ rw first refl }
 
 -- ---- a fresh run

@@ -40,6 +40,7 @@ use denote.Triple.Clauses.{ensured, lasts}
 use denote.Triple.Table.{entered, cited}
 use denote.Triple.Walked.{says, Stays, stay-none, gave-ref, gave-slice, walkOf, AllGo, goes-none, goes-gave-ref, goes-gave-slice, Walks, ends-at, walked, walk-meets}
 use denote.Exit.{yes}
+use Rattle.rules.specs.laws.run.Acts.{judged-sound}
 use Rattle.rules.specs.declared.Ledger.{Ledger}
 use Rattle.rules.specs.declared.Parcel.{Parcel}
 use Rattle.rules.specs.declared.Run.{Run}
@@ -53,7 +54,7 @@ use Rattle.sites.specs.Verdicts.{seenAs, judgement}
 use Rattle.ledger.proofs.Lent.{ref, val, typed, told, is-at, unlocks, locks, holds}
 use Rattle.sites.proofs.Lending.{Kept, lends-out, takes-back}
 use Rattle.sites.proofs.OnAct.{OneAct, gave-act, free-fits}
-use Rattle.sites.proofs.Outcomes.{judged-all, judged-sound, judged-step, scanned-low}
+use Rattle.sites.proofs.Outcomes.{judged-all, judged-step, scanned-low}
 use Rattle.rules.proofs.Ledger as T
 use Rattle.rules.proofs.Ledger.Laws as T′
 use Rattle.rules.proofs.Parcel as P
