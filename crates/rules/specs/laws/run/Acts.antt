@@ -18,7 +18,7 @@ use Rattle.rules.specs.laws.run.Slots.{set-lowest, lowest-within}
 use Rattle.rules.specs.laws.table.View.{parts}
 use Rattle.rules.specs.meaning.Runs.{State, width, sizesRight, tablesSound, allSound, StateSound, sightWith, sightOf, firstGiven, placeIn, parcelIn, valueIn, refusalIn, refusalOf, valueOf, stateBy, moved, after}
 use Rattle.rules.specs.laws.run.Steps.{pass}
-use Rattle.rules.specs.meaning.Acts.{judgedOf, answerUnder, afterUnder, Acted, lowTaken, lowAfter}
+use Rattle.rules.specs.meaning.Acts.{judgedOf, Clear, answerUnder, afterUnder, Acted, lowTaken, lowAfter}
 
 -- ---- the judge
 -- a state that is let through is sound, and a sound one is let through
@@ -34,6 +34,10 @@ judged-sound run s h =
 pub sound-passes : (run : Run) (s : State) → StateSound run s → judgedOf run s ≡ 0
 unfolding judgedOf allSound firstGiven
 sound-passes run s h = rw (h .0, h .1, h .2, h .3)
+
+-- so what it lets through may be handed to the inner step
+pub judged-clear : (run : Run) (s : State) (low : ℕ) → low ≤ lowestFree (s .slots) → Clear (judgedOf run s) low run s
+judged-clear run s low under = (judged-sound run s, under)
 
 -- what it refuses is refused with that number at each step
 pub judged-first : (run : Run) (s : State) (step : Step) (r : ℕ) → judgedOf run s ≡ suc r → refusalOf run s step ≡ suc r
