@@ -4,7 +4,7 @@ use mathlib.Core.Bool.{Bool, true, false}
 use mathlib.Core.List.{List, _++_, append-assoc}
 use Prim.Native.Nat.{ℕ, _+_, _≤_, _<_}
 use native.Mathlib.Omega.{arith}
-use borrow.Author.Tests.{lt-ltb, le-ltb, eq-eqb, ne-eqb}
+use borrow.Author.Tests.{lt-ltb, le-ltb}
 use lib.ListN.{length, length-append}
 use Rattle.rules.specs.meaning.Number.{digits}
 use Rattle.rules.specs.laws.line.Numbers.{below, by-test}
@@ -13,7 +13,8 @@ use Rattle.rules.specs.laws.line.Lines.{step-says}
 use Rattle.rules.specs.meaning.Runs.{firstGiven}
 use Rattle.rules.specs.meaning.Put.{put}
 use Rattle.rules.specs.laws.Put.{put-nil, put-put}
-use Rattle.rules.specs.meaning.Writing.{checkOf, textFor, Filled}
+use Rattle.rules.specs.meaning.Writing.{checkOf, Filled}
+use Rattle.rules.specs.laws.line.Writing.{text-whole, text-refused}
 
 pub line-length : (kind first second i : ℕ) → length (textOf kind first second i) ≡ length (lead kind) + length (digits first) + length (field (hasSecond kind) toName second) + length (field (hasId kind) idName i)
 unfolding textOf
@@ -51,15 +52,13 @@ module _ (kind first second i room : ℕ) where
 
 module _ (kind first second i : ℕ) (out : List ℕ) where
   pub filled-none : (r : ℕ) → r ≡ checkOf kind first second i (length out) → (r ≡ 0 → ⊥) → Filled kind first second i out out 0
-  unfolding textFor
   filled-none r e h =
-      let f = ne-eqb (checkOf kind first second i (length out)) 0 (λ z. h (e ∙ z)) in
+      let f = text-refused kind first second i (length out) (λ z. h (e ∙ z)) in
       record { count = rw f; bytes = rw f (sym (put-nil out 0)) }
 
   pub filled-line : (after : List ℕ) (n r : ℕ) → r ≡ checkOf kind first second i (length out) → r ≡ 0 → n ≡ length (textOf kind first second i) → after ≡ put out 0 (textOf kind first second i) → Filled kind first second i out after n
-  unfolding textFor
   filled-line after n r e z count bytes =
-      let t = eq-eqb (checkOf kind first second i (length out)) 0 (sym e ∙ z) in
+      let t = text-whole kind first second i (length out) (sym e ∙ z) in
       record { count = rw t count; bytes = rw t bytes }
 
 -- ---- four pieces, one behind the other

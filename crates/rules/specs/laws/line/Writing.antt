@@ -1,7 +1,6 @@
 -- The laws of the line writer: what it hands back is the line, or nothing where it is refused.
 -- Assumes nothing.
-use Prim.Native.Nat.{ℕ, suc}
-use native.Mathlib.Omega.{arith}
+use Prim.Native.Nat.{ℕ}
 use mathlib.Core.Path.{_≡_, ap, _∙_}
 use mathlib.Core.List.{List, []}
 use lib.ListN.{length, take}
@@ -21,6 +20,6 @@ pub text-whole : (kind first second i room : ℕ) → checkOf kind first second 
 unfolding textFor
 text-whole kind first second i room h = rw h
 
-pub text-refused : (kind first second i room r : ℕ) → checkOf kind first second i room ≡ suc r → textFor kind first second i room ≡ []
+pub text-refused : (kind first second i room : ℕ) → (checkOf kind first second i room ≡ 0 → ⊥) → textFor kind first second i room ≡ []
 unfolding textFor
-text-refused kind first second i room r h = rw (h, ne-eqb (suc r) 0 (omega arith))
+text-refused kind first second i room h = rw (ne-eqb (checkOf kind first second i room) 0 h)
