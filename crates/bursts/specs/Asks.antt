@@ -9,7 +9,7 @@ use Rattle.rules.specs.declared.Answer.{Answer}
 use Rattle.rules.specs.declared.Step.the-variants.{Query}
 use Rattle.rules.specs.declared.Named.{Named}
 use Rattle.rules.specs.declared.Named.the-variants.{Is, NoStep}
-use Rattle.rules.specs.meaning.Runs.{_when_, firstGiven}
+use Rattle.rules.specs.meaning.Refusals.{_when_, firstGiven}
 use Rattle.rules.specs.meaning.StepLines.{stepFor}
 use Rattle.bursts.specs.declared.Ask.{Ask}
 

@@ -32,7 +32,7 @@ use Rattle.rules.specs.declared.Parcel.{Parcel}
 use Rattle.rules.specs.declared.Answer.{Answer}
 use Rattle.rules.specs.declared.Run.{Run}
 use Rattle.rules.specs.declared.Step.{Step}
-use Rattle.rules.specs.meaning.Runs.{lent}
+use Rattle.rules.specs.meaning.States.{lent}
 use Rattle.rules.specs.meaning.Acts.{Clear, Acted}
 use Rattle.sites.proofs.OnAct.{OneAct, sizes-val, asked-val, to-act, gave-act}
 use Rattle.sites.proofs.act.Symbol.{name as #sites·act}

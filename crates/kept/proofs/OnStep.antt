@@ -41,7 +41,8 @@ use Rattle.rules.specs.declared.Parcel.{Parcel}
 use Rattle.rules.specs.declared.Answer.{Answer}
 use Rattle.rules.specs.declared.Run.{Run}
 use Rattle.rules.specs.declared.Step.{Step}
-use Rattle.rules.specs.meaning.Runs.{lent, Stepped}
+use Rattle.rules.specs.meaning.States.{lent}
+use Rattle.rules.specs.meaning.Runs.{Stepped}
 use Rattle.kept.proofs.Locals.{ref, val, holds}
 use Rattle.kept.proofs.LentRun.{lends-run, run-back}
 use Rattle.rules.proofs.Ledger as T

@@ -1,6 +1,6 @@
 -- A kept run as a state.
 -- Assumes nothing.
-use Rattle.rules.specs.meaning.Runs.{State, lent}
+use Rattle.rules.specs.meaning.States.{State, lent}
 use Rattle.kept.specs.declared.Kept.{Kept}
 
 abbrev pub keptState : Kept → State

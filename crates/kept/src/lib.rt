@@ -8,7 +8,8 @@ ghost use mathlib.Core.Path.{_≡_};
 ghost use lib.ListN.{replicate};
 ghost use Rattle.rules.specs.meaning.Ledgers.{emptyLedger};
 ghost use Rattle.rules.specs.meaning.Parcels.{noParcel};
-ghost use Rattle.rules.specs.meaning.Runs.{lent, Stepped};
+ghost use Rattle.rules.specs.meaning.States.{lent};
+ghost use Rattle.rules.specs.meaning.Runs.{Stepped};
 ghost use Rattle.kept.specs.Kept.{keptState};
 
 pub struct Kept {

@@ -9,7 +9,7 @@ use lib.Bits.{bitAnd, and-mask}
 use lib.ListN.{length, set}
 use Rattle.rules.specs.declared.Line.the-variants.{Numbers, NoLine}
 use Rattle.rules.specs.meaning.Lines.{numbersOf}
-use Rattle.rules.specs.meaning.Runs.{firstGiven}
+use Rattle.rules.specs.meaning.Refusals.{firstGiven}
 use Rattle.rules.specs.meaning.Put.{put}
 use Rattle.rules.specs.laws.Put.{put-nil, put-cons}
 use Rattle.rules.specs.meaning.Area.{little, word, laid, isNoLine, readRefusal, areaAfter}

@@ -10,7 +10,7 @@ use Rattle.rules.specs.meaning.Number.{digits}
 use Rattle.rules.specs.laws.line.Numbers.{below, by-test}
 use Rattle.rules.specs.meaning.Lines.{lead, toName, idName, hasSecond, hasId, field, textOf, namesStep}
 use Rattle.rules.specs.laws.line.Lines.{step-says}
-use Rattle.rules.specs.meaning.Runs.{firstGiven}
+use Rattle.rules.specs.meaning.Refusals.{firstGiven}
 use Rattle.rules.specs.meaning.Put.{put}
 use Rattle.rules.specs.laws.Put.{put-nil, put-put}
 use Rattle.rules.specs.meaning.Writing.{checkOf, Filled}

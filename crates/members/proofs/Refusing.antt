@@ -7,7 +7,7 @@ use lib.ListN.{length}
 use borrow.Author.Tests.{ltb-false, not-false}
 use Rattle.rules.specs.meaning.Table.{SoundTable}
 use Rattle.rules.specs.meaning.Operations.{unlessRefused}
-use Rattle.rules.specs.meaning.Runs.{firstGiven}
+use Rattle.rules.specs.meaning.Refusals.{firstGiven}
 use Rattle.rules.specs.laws.run.Steps.{pass}
 use Rattle.rules.specs.meaning.Put.{put}
 use Rattle.rules.specs.meaning.Members.{bytesFor, answersOf, membersRefusal, membersAfter, Answered}

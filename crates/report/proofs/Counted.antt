@@ -12,8 +12,8 @@ use Rattle.rules.specs.declared.Parcel.{Parcel}
 use Rattle.rules.specs.meaning.Lengths.{M}
 use Rattle.rules.specs.meaning.Parcels.{isFree, noParcel, waiting}
 use Rattle.rules.specs.meaning.Table.{held}
-use Rattle.rules.specs.meaning.Runs.{State, tableAt, StateSound}
-use Rattle.rules.specs.laws.run.Sound.{words-long}
+use Rattle.rules.specs.meaning.States.{State, tableAt, StateSound}
+use Rattle.rules.specs.laws.run.Tables.{words-long}
 use Rattle.rules.specs.laws.run.Sites.{tables-at}
 use Rattle.rules.specs.meaning.Text.{ascii}
 use Rattle.rules.specs.meaning.Number.{digits}

@@ -10,8 +10,9 @@ use lib.Seq.{slice, slice-empty, drop-length}
 use Rattle.rules.specs.declared.Answer.{Answer}
 use Rattle.rules.specs.declared.Named.{Named}
 use Rattle.rules.specs.declared.Named.the-variants.{Is, NoStep}
-use Rattle.rules.specs.meaning.Runs.{State, StateSound}
+use Rattle.rules.specs.meaning.States.{State, StateSound}
 use Rattle.rules.specs.meaning.Acts.{Acted, answerUnder, afterUnder}
+use Rattle.rules.specs.meaning.Runs.{after}
 use Rattle.rules.specs.meaning.Put.{put}
 use Rattle.rules.specs.meaning.StepLines.{stepOf}
 use Rattle.rules.specs.meaning.Calls.{namedAfter}

@@ -16,7 +16,9 @@ use Rattle.rules.specs.declared.Named.{Named}
 use Rattle.rules.specs.declared.Named.the-variants.{Is, NoStep}
 use Rattle.rules.specs.meaning.Lengths.{listed}
 use Rattle.rules.specs.meaning.Operations.{answer}
-use Rattle.rules.specs.meaning.Runs.{State, refusalOf, valueOf, answerOf}
+use Rattle.rules.specs.meaning.States.{State}
+use Rattle.rules.specs.meaning.Runs.{refusalOf, valueOf, answerOf}
+use Rattle.rules.specs.meaning.Kinds.{numbers}
 use Rattle.rules.specs.meaning.Text.{ascii}
 use Rattle.rules.specs.meaning.Number.{digits}
 use Rattle.rules.specs.meaning.Reports.{reportRun, lineEnd, refusedLine, queryLine, countLine, ledgerLines, acceptedLine, lineBy, saidOf}
@@ -57,12 +59,12 @@ accepted-by zero n step m h = refl
 accepted-by (suc r) n step m h = absurd (omega arith)
 
 pub asked-by : (r n : ℕ) (step : Step) (k e m : ℕ) → r ≡ 0 → step ≡ Query k e → lineBy r n step m ≡ queryLine n k e m
-unfolding acceptedLine
+unfolding acceptedLine numbers
 asked-by r n step k e m h q = accepted-by r n step m h ∙ ap (λ (x : Step). acceptedLine n x m) q
 
 -- every kind but the third says nothing
 not-query : (n : ℕ) (step : Step) (m : ℕ) → OneOf (0 ∷ 1 ∷ 3 ∷ 4 ∷ 5 ∷ 6 ∷ 7 ∷ []) (tagOf Q.the-type step) → acceptedLine n step m ≡ []
-unfolding acceptedLine
+unfolding acceptedLine numbers
 not-query n (Add k e) m h = refl
 not-query n (Remove k e) m h = refl
 not-query n (Query k e) m h = absurd (miss (0 ∷ 1 ∷ 3 ∷ 4 ∷ 5 ∷ 6 ∷ 7 ∷ []) 2 tt h)

@@ -8,7 +8,7 @@ use Rattle.rules.specs.declared.Named.{Named}
 use Rattle.rules.specs.declared.Named.the-variants.{Is, NoStep}
 use Rattle.rules.specs.declared.Step.{Step}
 use Rattle.rules.specs.declared.Step.the-variants.{Query}
-use Rattle.rules.specs.meaning.Runs.{State}
+use Rattle.rules.specs.meaning.States.{State}
 use Rattle.rules.specs.meaning.Calls.{namedAfter}
 use Rattle.rules.specs.meaning.Reports.{reportRun, lineEnd, saidOf, reportFrom}
 use Rattle.report.specs.declared.ahead.Ahead.{Ahead}

@@ -5,7 +5,7 @@ use mathlib.Core.Path.{_≡_}
 use mathlib.Core.List.{List}
 use lib.ListN.{length}
 use Rattle.rules.specs.meaning.Table.{SoundTable}
-use Rattle.rules.specs.meaning.Runs.{tableAt}
+use Rattle.rules.specs.meaning.States.{tableAt}
 use Rattle.rules.specs.meaning.Reports.{reportRun}
 
 pub record ThreeTables (ws : List ℕ) : Type 0 where

@@ -9,7 +9,7 @@ ghost use Prim.Native.Nat.{_+_, _≤_};
 ghost use mathlib.Core.Path.{_≡_};
 ghost use lib.ListN.{length};
 ghost use Rattle.rules.specs.meaning.Parcels.{waiting};
-ghost use Rattle.rules.specs.meaning.Runs.{lent, StateSound};
+ghost use Rattle.rules.specs.meaning.States.{lent, StateSound};
 ghost use Rattle.rules.specs.meaning.Reports.{reportRun, ledgerLines, siteLine, siteLines, endLines};
 ghost use Rattle.report.specs.Laid.{Laid};
 ghost use Rattle.report.specs.Tables.{ThreeTables};

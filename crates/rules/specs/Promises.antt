@@ -18,8 +18,11 @@ use Rattle.rules.specs.declared.Named.the-variants.{Is}
 use Rattle.rules.specs.meaning.Lengths.{listed, afterAdd, afterRemove, join}
 use Rattle.rules.specs.meaning.Table.{lengthOf, rises}
 use Rattle.rules.specs.meaning.Parcels.{waiting}
-use Rattle.rules.specs.meaning.Runs.{State, tableAt, sightOf, refusalOf, valueOf, answerOf, after, freshRefusal, afterFresh, Stepped, Freshened}
-use Rattle.rules.specs.meaning.Histories.{ran, siteIn, isSend, isAgain, isDeliver, isLose, acceptedOf, parcelAt, absorbed, largest, samePairs, offered, distinct, lengthIn}
+use Rattle.rules.specs.meaning.Kinds.{isSend, isAgain, isDeliver, isLose}
+use Rattle.rules.specs.meaning.States.{State, tableAt, sightOf, parcelAt}
+use Rattle.rules.specs.meaning.Steps.{siteIn}
+use Rattle.rules.specs.meaning.Runs.{refusalOf, valueOf, answerOf, after, freshRefusal, afterFresh, Stepped, Freshened}
+use Rattle.rules.specs.meaning.Histories.{ran, acceptedOf, absorbed, largest, samePairs, offered, distinct, lengthIn}
 use Rattle.rules.specs.meaning.Lines.{textOf, namesStep, numbersOf}
 use Rattle.rules.specs.meaning.StepLines.{lineOf, stepOf, Fits}
 use Rattle.rules.specs.meaning.Calls.{namedAnswer, Called}

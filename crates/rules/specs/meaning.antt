@@ -4,6 +4,10 @@ pub mod Table
 pub mod Operations
 pub mod Parcels
 pub mod Ledgers
+pub mod Refusals
+pub mod Kinds
+pub mod States
+pub mod Steps
 pub mod Runs
 pub mod Acts
 pub mod Histories

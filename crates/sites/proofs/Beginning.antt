@@ -9,7 +9,9 @@ use mathlib.Core.List.{List, [], _∷_, _++_}
 use lib.ListN.{length, take, set, replicate}
 use lib.Seq.{take-suc-set, take-all}
 use Rattle.rules.specs.declared.Run.{Run}
-use Rattle.rules.specs.meaning.Runs.{sizesRight, firstGiven, freshRefusal}
+use Rattle.rules.specs.meaning.Refusals.{firstGiven}
+use Rattle.rules.specs.meaning.States.{sizesRight}
+use Rattle.rules.specs.meaning.Runs.{freshRefusal}
 use Rattle.sites.specs.Verdicts.{freshWords}
 
 one-more : (i : ℕ) → _++_ {A = ℕ} (replicate i 0) (0 ∷ []) ≡ replicate (suc i) 0

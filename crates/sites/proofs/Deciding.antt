@@ -7,7 +7,9 @@ use Rattle.rules.specs.declared.Run.{Run}
 use Rattle.rules.specs.declared.Sight.{Sight}
 use Rattle.rules.specs.declared.Step.{Step}
 use Rattle.rules.specs.meaning.Operations.{unlessRefused}
-use Rattle.rules.specs.meaning.Runs.{wordsIn}
+
+use Rattle.sites.specs.Verdicts.{refusedVerdict, stepRefusal, stepVerdict, stepWords, verdictUnder, wordsUnder}
+use Rattle.rules.specs.meaning.Steps.{effect}
 use Rattle.sites.specs.Verdicts.{refusedVerdict, stepRefusal, stepVerdict, stepWords, verdictUnder, wordsUnder}
 
 module _ (run : Run) (ws : List ℕ) (si : Sight) (step : Step) where
@@ -23,7 +25,7 @@ module _ (run : Run) (ws : List ℕ) (si : Sight) (step : Step) where
   under-in r h = rw h (refl, refl)
 
   -- a step that leaves the words
-  pub still-words : wordsIn run ws si step ≡ ws → ws ≡ stepWords run ws si step
+  pub still-words : effect run ws si step .gain .words ≡ ws → ws ≡ stepWords run ws si step
   still-words h = rw h (go (stepRefusal run ws si step))
     where
       go : (r : ℕ) → ws ≡ unlessRefused r ws ws

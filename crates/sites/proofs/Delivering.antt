@@ -16,7 +16,9 @@ use Rattle.rules.specs.meaning.Operations.{answer, raiseRefusal, raiseAnswer, r
 use Rattle.rules.specs.meaning.Parcels.{noParcel}
 use Rattle.rules.specs.laws.run.Slots.{occupied-has}
 use Rattle.rules.specs.meaning.Ledgers.{absorbedCounter}
-use Rattle.rules.specs.meaning.Runs.{tableAt, withTable, firstGiven, nothingThere, noRoom, lengthDelivered, valueIn, wordsIn, placeIn, parcelIn, counterOf}
+use Rattle.rules.specs.meaning.Refusals.{firstGiven}
+use Rattle.rules.specs.meaning.States.{tableAt, withTable}
+use Rattle.rules.specs.meaning.Steps.{frees, nothingThere, noRoom, lengthDelivered, effect}
 use Rattle.rules.specs.laws.run.Steps.{neither}
 use Rattle.sites.specs.Verdicts.{refusedVerdict, verdict, delivered, stepRefusal, stepVerdict, stepWords}
 use Rattle.sites.proofs.Tables.{kept}
@@ -36,32 +38,32 @@ settle-refused a slot count h = go (a .refusal) refl
     go zero e = absurd (h e)
     go (suc r) e = rw e
 
-by-answer : (r v slot count : ℕ) → delivered (answer r v) slot count ≡ verdict r v absorbedCounter slot noParcel count
+by-answer : (r v slot count : ℕ) → delivered (answer r v) slot count ≡ verdict r v (frees slot absorbedCounter) count
 by-answer zero v slot count = refl
 by-answer (suc r) v slot count = refl
 
 module _ (run : Run) (ws : List ℕ) (si : Sight) (i : ℕ) where
   pub deliver-none : nothingThere run si i ≡ true → stepRefusal run ws si (Deliver i) ≡ 5
-  unfolding stepRefusal firstGiven
+  unfolding stepRefusal firstGiven effect
   deliver-none h = rw h
 
   module _ (there : nothingThere run si i ≡ false) where
     pub deliver-crowded : noRoom run ws (si .named .site) (si .named .id) (lengthDelivered run ws (si .named)) ≡ true → stepRefusal run ws si (Deliver i) ≡ 8
-    unfolding stepRefusal firstGiven
+    unfolding stepRefusal firstGiven effect
     deliver-crowded q = rw (there, q)
 
     pub deliver-full : noRoom run ws (si .named .site) (si .named .id) (lengthDelivered run ws (si .named)) ≡ false → si .ledger .absorbed ≡ M → stepRefusal run ws si (Deliver i) ≡ 10
-    unfolding stepRefusal firstGiven
+    unfolding stepRefusal firstGiven effect
     deliver-full q e = rw (there, q, eq-eqb (si .ledger .absorbed) M e)
 
     module _ (below : si .ledger .absorbed ≡ M → ⊥) where
       refusal : stepRefusal run ws si (Deliver i) ≡ raiseRefusal (tableAt run ws (si .named .site)) (si .named .id) (lengthDelivered run ws (si .named))
-      unfolding stepRefusal firstGiven raiseRefusal
+      unfolding stepRefusal firstGiven raiseRefusal effect
       refusal = rw (there, ne-eqb (si .ledger .absorbed) M below)
 
       pub deliver-step : (delivered (absorbAnswer (tableAt run ws (si .named .site)) (si .named .id) (si .named .length)) i (si .count) ≡ stepVerdict run ws si (Deliver i))
           × (withTable run ws (si .named .site) (absorbTable (tableAt run ws (si .named .site)) (si .named .id) (si .named .length)) ≡ stepWords run ws si (Deliver i))
-      unfolding raiseAnswer raiseTable valueIn wordsIn counterOf placeIn parcelIn
+      unfolding raiseAnswer raiseTable effect
       deliver-step =
           let t = tableAt run ws (si .named .site) in
           let n = lengthDelivered run ws (si .named) in

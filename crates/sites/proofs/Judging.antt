@@ -14,7 +14,7 @@ use Rattle.rules.specs.declared.Run.{Run}
 use Rattle.rules.specs.meaning.Lengths.{M}
 use Rattle.rules.specs.meaning.Table.{sound}
 use Rattle.rules.specs.laws.table.View.{parts}
-use Rattle.rules.specs.meaning.Runs.{width, sizesRight, tablesSound}
+use Rattle.rules.specs.meaning.States.{width, sizesRight, tablesSound}
 use Rattle.rules.specs.laws.run.Sites.{next-part}
 use Rattle.sites.specs.Verdicts.{Sized}
 

@@ -39,7 +39,7 @@ use Rattle.rules.specs.declared.Answer.{Answer}
 use Rattle.rules.specs.declared.Run.{Run}
 use Rattle.rules.specs.declared.Scan.{Scan}
 use Rattle.rules.specs.declared.Step.{Step}
-use Rattle.rules.specs.meaning.Runs.{lent}
+use Rattle.rules.specs.meaning.States.{lent}
 use Rattle.rules.specs.meaning.Acts.{Clear, Acted}
 use Rattle.ledger.proofs.Lent.{ref, val, is-at, holds}
 use Rattle.rules.proofs.Ledger as T

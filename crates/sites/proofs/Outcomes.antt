@@ -23,18 +23,22 @@ use Rattle.rules.specs.meaning.Operations.{answer, unlessRefused}
 use Rattle.rules.specs.meaning.Ledgers.{raisedLedger, emptiedIf}
 use Rattle.rules.specs.laws.run.Ledgers.{raised-none}
 use Rattle.rules.specs.meaning.Parcels.{noParcel, lowestFree, scanOf, cleared}
-use Rattle.rules.specs.meaning.Runs.{State, lent, slotOf, sightOf, refusalIn, valueIn, wordsIn, placeIn, parcelIn, refusalOf, valueOf, stateBy, after, freshRefusal, empty, afterFresh, Stepped, Freshened, StateSound}
+use Rattle.rules.specs.meaning.States.{State, lent, sightOf, StateSound}
+use Rattle.rules.specs.meaning.Kinds.{slotOf, numbers, takesSlot}
+use Rattle.rules.specs.meaning.Runs.{refusalIn, refusalOf, valueOf, stateBy, after, freshRefusal, empty, afterFresh, Stepped, Freshened}
 use Rattle.sites.specs.declared.verdict.Verdict.{Verdict}
 use Rattle.rules.specs.laws.run.Steps.{sound-judged}
-use Rattle.sites.specs.Verdicts.{Ready, seenAs, judgement, stepRefusal, stepVerdict, stepWords, verdictBy, needsSlot, lookedAt, verdictUnder, wordsUnder, answerIn, freshWords, slotsToClear}
+use Rattle.sites.specs.Verdicts.{Ready, seenAs, judgement, stepRefusal, stepVerdict, stepWords, verdictBy, lookedAt, verdictUnder, wordsUnder, answerIn, freshWords, slotsToClear}
 use Rattle.rules.specs.laws.run.Acts.{judged-first}
+use Rattle.rules.specs.meaning.Steps.{effect}
+use Rattle.sites.specs.Verdicts.{Ready, seenAs, judgement, stepRefusal, stepVerdict, stepWords, verdictBy, lookedAt, verdictUnder, wordsUnder, answerIn, freshWords, slotsToClear}
 use Rattle.rules.specs.meaning.Acts.{judgedOf, answerUnder, afterUnder, Acted}
 use Rattle.sites.proofs.Judging.{sized}
 
 module _ (run : Run) (ws : List ℕ) (ss : List Parcel) (l : Ledger) (step : Step) where
   -- the verdict on what is lent, by its refusal
   by-refusal : (r : ℕ) → refusalOf run (lent ws ss l) step ≡ r → (v : Verdict) → v ≡ verdictBy (refusalIn run ws (sightOf run (lent ws ss l) step) step) run ws (sightOf run (lent ws ss l) step) step
-      → (ws′ : List ℕ) → ws′ ≡ unlessRefused (refusalIn run ws (sightOf run (lent ws ss l) step) step) ws (wordsIn run ws (sightOf run (lent ws ss l) step) step)
+      → (ws′ : List ℕ) → ws′ ≡ unlessRefused (refusalIn run ws (sightOf run (lent ws ss l) step) step) ws (effect run ws (sightOf run (lent ws ss l) step) step .gain .words)
       → Stepped run (lent ws ss l) step (answerIn v) (lent ws′ (set ss (v .at) (v .parcel)) (raisedLedger M (v .counter) l))
   unfolding refusalOf valueOf after
   by-refusal zero z v e ws′ f = record {
@@ -53,8 +57,8 @@ module _ (run : Run) (ws : List ℕ) (ss : List Parcel) (l : Ledger) where
       (stepVerdict run ws (lookedAt free (getD ss (slotOf step) noParcel) (length ss) l) step ≡ stepVerdict run ws (sightOf run (lent ws ss l) step) step)
       × (stepWords run ws (lookedAt free (getD ss (slotOf step) noParcel) (length ss) l) step ≡ stepWords run ws (sightOf run (lent ws ss l) step) step)
 
-  same-sight : (step : Step) (free : ℕ) → free ≡ cond (needsSlot step) (lowestFree ss) 0 → Same step free
-  unfolding needsSlot stepRefusal valueIn wordsIn placeIn parcelIn
+  same-sight : (step : Step) (free : ℕ) → free ≡ cond (takesSlot step) (lowestFree ss) 0 → Same step free
+  unfolding numbers stepRefusal effect
   same-sight (Add k e) free h = (refl, refl)
   same-sight (Remove k e) free h = (refl, refl)
   same-sight (Query k e) free h = (refl, refl)
@@ -65,7 +69,7 @@ module _ (run : Run) (ws : List ℕ) (ss : List Parcel) (l : Ledger) where
   same-sight (Lose i) free h = (refl, refl)
 
   -- by what has refused the step before
-  by-refused : (step : Step) (free : ℕ) → free ≡ cond (needsSlot step) (lowestFree ss) 0 → (refused : ℕ) → (refused ≡ 0 → StateSound run (lent ws ss l)) → (v : Verdict) → v ≡ verdictUnder refused run ws (lookedAt free (getD ss (slotOf step) noParcel) (length ss) l) step
+  by-refused : (step : Step) (free : ℕ) → free ≡ cond (takesSlot step) (lowestFree ss) 0 → (refused : ℕ) → (refused ≡ 0 → StateSound run (lent ws ss l)) → (v : Verdict) → v ≡ verdictUnder refused run ws (lookedAt free (getD ss (slotOf step) noParcel) (length ss) l) step
       → (ws′ : List ℕ) → ws′ ≡ wordsUnder refused run ws (lookedAt free (getD ss (slotOf step) noParcel) (length ss) l) step
       → Acted refused run (lent ws ss l) step (answerIn v) (lent ws′ (set ss (v .at) (v .parcel)) (raisedLedger M (v .counter) l))
   unfolding verdictUnder wordsUnder answerUnder afterUnder refusalOf stepRefusal
@@ -84,7 +88,7 @@ pub clear-ready : (refused : ℕ) (run : Run) (ws : List ℕ) (ss : List Parcel)
 clear-ready refused run ws ss l clear z = record { sized = sized run (length ws) (length ss) (clear z .0); tables = clear z .1 }
 
 pub acted : (refused : ℕ) (sizes : Run) (ws : List ℕ) (ss : List Parcel) (l : Ledger) (asked : Step) (at : ℕ) (held : Parcel) (wanted : Bool) (free : ℕ) (v : Verdict) (ws′ : List ℕ) (ss′ : List Parcel) (l′ : Ledger)
-    → (refused ≡ 0 → StateSound sizes (lent ws ss l)) → at ≡ slotOf asked → held ≡ getD ss at noParcel → wanted ≡ needsSlot asked → free ≡ cond wanted (lowestFree ss) 0
+    → (refused ≡ 0 → StateSound sizes (lent ws ss l)) → at ≡ slotOf asked → held ≡ getD ss at noParcel → wanted ≡ takesSlot asked → free ≡ cond wanted (lowestFree ss) 0
     → (v ≡ verdictUnder refused sizes ws (lookedAt free held (length ss) l) asked) × (ws′ ≡ wordsUnder refused sizes ws (lookedAt free held (length ss) l) asked)
     → l′ ≡ raisedLedger M (v .counter) l → ss′ ≡ set ss (v .at) (v .parcel)
     → Acted refused sizes (lent ws ss l) asked (answerIn v) (lent ws′ ss′ l′)

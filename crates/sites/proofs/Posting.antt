@@ -15,7 +15,9 @@ use Rattle.rules.specs.meaning.Lengths.{M}
 use Rattle.rules.specs.meaning.Table.{lengthOf}
 use Rattle.rules.specs.meaning.Parcels.{noParcel, isOccupied}
 use Rattle.rules.specs.meaning.Ledgers.{sentCounter, copiedCounter, lostCounter}
-use Rattle.rules.specs.meaning.Runs.{tableAt, firstGiven, nothingThere, noFreeSlot, valueIn, placeIn, parcelIn, counterOf}
+use Rattle.rules.specs.meaning.Refusals.{firstGiven}
+use Rattle.rules.specs.meaning.States.{tableAt}
+use Rattle.rules.specs.meaning.Steps.{nothingThere, noFreeSlot, effect}
 use Rattle.sites.specs.Verdicts.{refusedVerdict, posted, stepRefusal, stepVerdict}
 
 not-not : (b : Bool) → not (not b) ≡ b
@@ -48,49 +50,49 @@ module _ (si : Sight) (p : Parcel) (counter counted : ℕ) where
 -- ---- again and lose
 module _ (run : Run) (ws : List ℕ) (si : Sight) (i : ℕ) where
   pub again-none : nothingThere run si i ≡ true → stepRefusal run ws si (Again i) ≡ 5
-  unfolding stepRefusal firstGiven
+  unfolding stepRefusal firstGiven effect
   again-none h = rw h
 
   pub again-step : nothingThere run si i ≡ false → posted si (si .named) copiedCounter (si .ledger .copied) ≡ stepVerdict run ws si (Again i)
-  unfolding posted stepRefusal firstGiven valueIn counterOf placeIn parcelIn
+  unfolding posted stepRefusal firstGiven effect
   again-step h = rw h
 
   pub lose-none : nothingThere run si i ≡ true → stepRefusal run ws si (Lose i) ≡ 5
-  unfolding stepRefusal firstGiven
+  unfolding stepRefusal firstGiven effect
   lose-none h = rw h
 
   pub lose-full : nothingThere run si i ≡ false → si .ledger .lost ≡ M → stepRefusal run ws si (Lose i) ≡ 10
-  unfolding stepRefusal firstGiven
+  unfolding stepRefusal firstGiven effect
   lose-full h q = rw (h, eq-eqb (si .ledger .lost) M q)
 
   pub lose-step : nothingThere run si i ≡ false → (si .ledger .lost ≡ M → ⊥)
       → record { refusal = 0; value = 0; counter = lostCounter; at = i; parcel = noParcel } ≡ stepVerdict run ws si (Lose i)
-  unfolding stepRefusal firstGiven valueIn counterOf placeIn parcelIn
+  unfolding stepRefusal firstGiven effect
   lose-step h q = rw (h, ne-eqb (si .ledger .lost) M q)
 
 -- ---- send
 module _ (run : Run) (ws : List ℕ) (si : Sight) (f t e : ℕ) where
   pub send-from : run .sites ≤ f → stepRefusal run ws si (Send f t e) ≡ 3
-  unfolding stepRefusal firstGiven
+  unfolding stepRefusal firstGiven effect
   send-from h = rw (le-leb (run .sites) f h)
 
   module _ (from-in : f < run .sites) where
     pub send-to : run .sites ≤ t → stepRefusal run ws si (Send f t e) ≡ 3
-    unfolding stepRefusal firstGiven
+    unfolding stepRefusal firstGiven effect
     send-to h = rw (lt-leb (run .sites) f from-in, le-leb (run .sites) t h)
 
     module _ (to-in : t < run .sites) where
       pub send-same : f ≡ t → stepRefusal run ws si (Send f t e) ≡ 4
-      unfolding stepRefusal firstGiven
+      unfolding stepRefusal firstGiven effect
       send-same q = rw (lt-leb (run .sites) f from-in, lt-leb (run .sites) t to-in, eq-eqb f t q)
 
       module _ (other : f ≡ t → ⊥) where
         pub send-unheld : lengthOf (tableAt run ws f) e ≡ 0 → stepRefusal run ws si (Send f t e) ≡ 6
-        unfolding stepRefusal firstGiven
+        unfolding stepRefusal firstGiven effect
         send-unheld z = rw (lt-leb (run .sites) f from-in, lt-leb (run .sites) t to-in, ne-eqb f t other, eq-eqb (lengthOf (tableAt run ws f) e) 0 z)
 
         pub send-step : (lengthOf (tableAt run ws f) e ≡ 0 → ⊥) → (n : ℕ) → n ≡ lengthOf (tableAt run ws f) e
             → posted si (record { site = t; id = e; length = n }) sentCounter (si .ledger .sent) ≡ stepVerdict run ws si (Send f t e)
-        unfolding posted stepRefusal firstGiven valueIn counterOf placeIn parcelIn
+        unfolding posted stepRefusal firstGiven effect
         send-step z n q =
             rw (q, lt-leb (run .sites) f from-in, lt-leb (run .sites) t to-in, ne-eqb f t other, ne-eqb (lengthOf (tableAt run ws f) e) 0 z)

@@ -18,7 +18,8 @@ use Rattle.rules.specs.meaning.Table.{SoundTable}
 use Rattle.rules.specs.meaning.Operations.{answer, unlessRefused}
 use Rattle.rules.specs.meaning.Parcels.{noParcel}
 use Rattle.rules.specs.meaning.Ledgers.{noCounter}
-use Rattle.rules.specs.meaning.Runs.{width, tableAt, withTable, tablesSound, valueIn, wordsIn, placeIn, parcelIn, counterOf}
+use Rattle.rules.specs.meaning.States.{width, tableAt, withTable, tablesSound}
+use Rattle.rules.specs.meaning.Steps.{noPost, effect}
 use Rattle.rules.specs.laws.run.Sites.{part-fits, tables-at, with-own}
 use Rattle.sites.specs.Verdicts.{Sized, Ready, verdict, tableVerdict, stepRefusal, stepVerdict, stepWords}
 
@@ -56,9 +57,9 @@ module _ (run : Run) (ws : List ℕ) (k from to : ℕ) (at : from ≡ k * width 
   put-of f {t} e = put-is t ∙ ap (withTable run ws k) (told-of f e)
 
 -- ---- a verdict that is a table's answer
-verdict-table : (r v count : ℕ) → tableVerdict (answer r v) count ≡ verdict r v noCounter count noParcel count
-verdict-table zero v count = refl
-verdict-table (suc r) v count = refl
+verdict-table : (r v : ℕ) (si : Sight) → tableVerdict (answer r v) (si .count) ≡ verdict r v (noPost si) (si .count)
+verdict-table zero v si = refl
+verdict-table (suc r) v si = refl
 
 pub kept : (r : ℕ) (run : Run) (ws : List ℕ) (k : ℕ) (u : List ℕ)
     → withTable run ws k (unlessRefused r (tableAt run ws k) u) ≡ unlessRefused r ws (withTable run ws k (unlessRefused r (tableAt run ws k) u))
@@ -66,12 +67,12 @@ kept zero run ws k u = refl
 kept (suc r) run ws k u = with-own run ws k
 
 -- a step that only works on a table: its refusal is the table's, and so is its value
-module _ (run : Run) (ws : List ℕ) (si : Sight) (step : Step) (k r v : ℕ) (u : List ℕ) (refusal : stepRefusal run ws si step ≡ r) (value : valueIn run ws si step ≡ v)
-    (counter : counterOf step ≡ noCounter) (place : placeIn si step ≡ si .count) (parcel : parcelIn run ws si step ≡ noParcel) where
+module _ (run : Run) (ws : List ℕ) (si : Sight) (step : Step) (k r v : ℕ) (u : List ℕ) (refusal : stepRefusal run ws si step ≡ r) (value : effect run ws si step .value ≡ v)
+    (post : effect run ws si step .post ≡ noPost si) where
   pub table-verdict : tableVerdict (answer r v) (si .count) ≡ stepVerdict run ws si step
-  table-verdict = rw (refusal, value, counter, place, parcel) (verdict-table r v (si .count))
+  table-verdict = rw (refusal, value, post) (verdict-table r v si)
 
-  pub table-words : wordsIn run ws si step ≡ withTable run ws k (unlessRefused r (tableAt run ws k) u) → withTable run ws k (unlessRefused r (tableAt run ws k) u) ≡ stepWords run ws si step
+  pub table-words : effect run ws si step .gain .words ≡ withTable run ws k (unlessRefused r (tableAt run ws k) u) → withTable run ws k (unlessRefused r (tableAt run ws k) u) ≡ stepWords run ws si step
   table-words words = rw (refusal, words) (kept r run ws k u)
 
 -- a step that is refused by its own tests

@@ -2,7 +2,7 @@
 -- Assumes nothing.
 use Prim.Native.Nat.{ℕ, zero, suc, _*_, _≤_}
 use mathlib.Core.Path.{_≡_}
-use mathlib.Core.Bool.{Bool, true, false, cond}
+use mathlib.Core.Bool.{true, cond}
 use mathlib.Core.List.{List, [], _∷_}
 use lib.ListN.{length, replicate}
 use lib.Dec.{eqb}
@@ -13,12 +13,14 @@ use Rattle.rules.specs.declared.Ledger.{Ledger}
 use Rattle.rules.specs.declared.Scan.{Scan}
 use Rattle.rules.specs.declared.Sight.{Sight}
 use Rattle.rules.specs.declared.Step.{Step}
-use Rattle.rules.specs.declared.Step.the-variants.{Add, Remove, Query, Send, Merge, Deliver, Again, Lose}
 use Rattle.rules.specs.meaning.Lengths.{M}
 use Rattle.rules.specs.meaning.Operations.{unlessRefused}
 use Rattle.rules.specs.meaning.Parcels.{noParcel}
 use Rattle.rules.specs.meaning.Ledgers.{noCounter, absorbedCounter}
-use Rattle.rules.specs.meaning.Runs.{width, tablesSound, noFreeSlot, firstGiven, _when_, judgeTests, stepTests, valueIn, wordsIn, placeIn, parcelIn, counterOf, freshRefusal}
+use Rattle.rules.specs.meaning.Refusals.{firstGiven, _when_}
+use Rattle.rules.specs.meaning.States.{width, tablesSound}
+use Rattle.rules.specs.meaning.Steps.{Post, puts, frees, noFreeSlot, effect}
+use Rattle.rules.specs.meaning.Runs.{judgeTests, freshRefusal}
 use Rattle.sites.specs.declared.verdict.Verdict.{Verdict}
 
 -- nothing to change
@@ -28,32 +30,32 @@ refusedVerdict number count = record { refusal = number; value = 0; counter = no
 abbrev pub tableVerdict : Answer → ℕ → Verdict
 tableVerdict a count = record { refusal = a .refusal; value = a .value; counter = noCounter; at = count; parcel = noParcel }
 
--- a verdict by its refusal: where it is accepted the value, the counter, and the slot with what is put there
-abbrev pub verdict : ℕ → ℕ → ℕ → ℕ → Parcel → ℕ → Verdict
-verdict zero value counter at p count = record { refusal = 0; value = value; counter = counter; at = at; parcel = p }
-verdict (suc r) value counter at p count = refusedVerdict (suc r) count
+-- a verdict by its refusal: where it is accepted the value, and what becomes of the slots and the ledger
+abbrev pub verdict : ℕ → ℕ → Post → ℕ → Verdict
+verdict zero value post count = record { refusal = 0; value = value; counter = post .counter; at = post .place; parcel = post .parcel }
+verdict (suc r) value post count = refusedVerdict (suc r) count
 
 -- a new parcel in the lowest free slot
 unfoldable pub posted : Sight → Parcel → ℕ → ℕ → Verdict
 posted si p counter counted =
-    verdict (firstGiven ((9 when noFreeSlot si) ∷ (10 when eqb counted M) ∷ [])) (si .scan .free) counter (si .scan .free) p (si .count)
+    verdict (firstGiven ((9 when noFreeSlot si) ∷ (10 when eqb counted M) ∷ [])) (si .scan .free) (puts si p counter) (si .count)
 
 -- an update that was taken to its site's table: the slot is freed and the update counted where the table took it
 abbrev pub delivered : Answer → ℕ → ℕ → Verdict
-delivered a slot count = verdict (a .refusal) (a .value) absorbedCounter slot noParcel count
+delivered a slot count = verdict (a .refusal) (a .value) (frees slot absorbedCounter) count
 
 -- ---- once the state is judged
 unfoldable pub stepRefusal : Run → List ℕ → Sight → Step → ℕ
-stepRefusal run ws si step = firstGiven (stepTests run ws si step)
+stepRefusal run ws si step = firstGiven (effect run ws si step .tests)
 
 abbrev pub verdictBy : ℕ → Run → List ℕ → Sight → Step → Verdict
-verdictBy r run ws si step = verdict r (valueIn run ws si step) (counterOf step) (placeIn si step) (parcelIn run ws si step) (si .count)
+verdictBy r run ws si step = verdict r (effect run ws si step .value) (effect run ws si step .post) (si .count)
 
 abbrev pub stepVerdict : Run → List ℕ → Sight → Step → Verdict
 stepVerdict run ws si step = verdictBy (stepRefusal run ws si step) run ws si step
 
 abbrev pub stepWords : Run → List ℕ → Sight → Step → List ℕ
-stepWords run ws si step = unlessRefused (stepRefusal run ws si step) ws (wordsIn run ws si step)
+stepWords run ws si step = unlessRefused (stepRefusal run ws si step) ws (effect run ws si step .gain .words)
 
 -- ---- judged and all
 unfoldable pub judgement : Run → List ℕ → Sight → ℕ
@@ -64,16 +66,6 @@ abbrev pub seenAs : Scan → Parcel → ℕ → Ledger → Sight
 seenAs scan held slots l = record { scan = scan; named = held; count = slots; ledger = l }
 
 -- ---- what is seen once the state is judged: of the pass over the slots only the lowest free one, and that where the step puts a parcel there
-unfoldable pub needsSlot : Step → Bool
-needsSlot (Add k e) = false
-needsSlot (Remove k e) = false
-needsSlot (Query k e) = false
-needsSlot (Send f t e) = true
-needsSlot (Merge f t) = false
-needsSlot (Deliver i) = false
-needsSlot (Again i) = true
-needsSlot (Lose i) = false
-
 abbrev pub lookedAt : ℕ → Parcel → ℕ → Ledger → Sight
 lookedAt free held slots l = seenAs (record { sound = true; waiting = 0; free = free }) held slots l
 

@@ -16,8 +16,8 @@ use rules::Scan;
 use rules::Sight;
 use rules::Step;
 ghost use mathlib.Core.Path.{_≡_};
-ghost use Rattle.rules.specs.meaning.Runs.{slotOf};
-ghost use Rattle.sites.specs.Verdicts.{Ready, needsSlot, lookedAt, verdictUnder, wordsUnder};
+ghost use Rattle.rules.specs.meaning.Kinds.{slotOf, takesSlot};
+ghost use Rattle.sites.specs.Verdicts.{Ready, lookedAt, verdictUnder, wordsUnder};
 
 // The slot that a step names. A step that names none reads slot 0, and makes nothing of it.
 pub(crate) fn slot_of(step: Step) -> usize
@@ -41,7 +41,7 @@ pub(crate) fn slot_of(step: Step) -> usize
 
 // Whether a step puts a new parcel into the lowest free slot. For any other the slots need no search.
 pub(crate) fn needs_slot(step: Step) -> bool
-    ensures { λ r. ⌜ r ≡ needsSlot step ⌝ }
+    ensures { λ r. ⌜ r ≡ takesSlot step ⌝ }
 {
     match step {
         Step::Add { site: _, id: _ } => false,

@@ -9,7 +9,7 @@ ghost use Prim.Native.Nat.{_*_, _≤_};
 ghost use lib.ListN.{length};
 ghost use Rattle.rules.specs.meaning.Lengths.{M};
 ghost use Rattle.rules.specs.meaning.Parcels.{noParcel};
-ghost use Rattle.rules.specs.meaning.Runs.{sizesRight, tablesSound, allSound};
+ghost use Rattle.rules.specs.meaning.States.{sizesRight, tablesSound, allSound};
 ghost use Rattle.sites.specs.Verdicts.{Sized, seenAs, judgement};
 
 // Whether the sizes are within the ranges and the words are as many as the tables take.

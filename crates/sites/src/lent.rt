@@ -18,7 +18,8 @@ use rules::Ledger;
 use rules::Parcel;
 use rules::Run;
 use rules::Step;
-ghost use Rattle.rules.specs.meaning.Runs.{lent, Stepped, Freshened};
+ghost use Rattle.rules.specs.meaning.States.{lent};
+ghost use Rattle.rules.specs.meaning.Runs.{Stepped, Freshened};
 ghost use Rattle.rules.specs.meaning.Acts.{Clear, Acted};
 
 // One step in a state that is sound, or one that something has refused before. It judges nothing, and sees no more of the slots than the step needs:

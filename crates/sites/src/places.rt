@@ -2,7 +2,7 @@
 use rules::Run;
 ghost use mathlib.Core.Path.{_≡_};
 ghost use Prim.Native.Nat.{_+_, _*_, _≤_, _<_};
-ghost use Rattle.rules.specs.meaning.Runs.{width};
+ghost use Rattle.rules.specs.meaning.States.{width};
 
 // From a word up to, not including, a word.
 pub struct Part {

@@ -14,7 +14,7 @@ ghost use mathlib.Core.Bool.{not};
 ghost use mathlib.Core.List.{List};
 ghost use Prim.Native.Nat.{ℕ};
 ghost use Rattle.rules.specs.declared.Step.the-variants.{Send, Again, Lose, Deliver};
-ghost use Rattle.rules.specs.meaning.Runs.{nothingThere};
+ghost use Rattle.rules.specs.meaning.Steps.{nothingThere};
 ghost use Rattle.sites.specs.Verdicts.{Ready, posted, stepVerdict, stepWords};
 
 // A new parcel takes the free slot with the lowest number, unless there is none or its counter is at the largest.

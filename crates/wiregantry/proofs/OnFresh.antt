@@ -32,7 +32,8 @@ use denote.Triple.Clauses.{ensured, lasts}
 use Rattle.rules.specs.declared.Ledger.{Ledger}
 use Rattle.rules.specs.declared.Parcel.{Parcel}
 use Rattle.rules.specs.declared.Run.{Run}
-use Rattle.rules.specs.meaning.Runs.{lent, Freshened}
+use Rattle.rules.specs.meaning.States.{lent}
+use Rattle.rules.specs.meaning.Runs.{Freshened}
 use Rattle.ledger.proofs.Lent.{ref, val, holds}
 use Rattle.rules.proofs.Ledger as T
 use Rattle.rules.proofs.Parcel as P

@@ -35,7 +35,8 @@ use Rattle.rules.specs.declared.Parcel.{Parcel}
 use Rattle.rules.specs.declared.Answer.{Answer}
 use Rattle.rules.specs.declared.Run.{Run}
 use Rattle.rules.specs.declared.Step.{Step}
-use Rattle.rules.specs.meaning.Runs.{lent, Stepped}
+use Rattle.rules.specs.meaning.States.{lent}
+use Rattle.rules.specs.meaning.Runs.{Stepped}
 use Rattle.ledger.proofs.Lent.{ref, val, holds}
 use Rattle.rules.proofs.Ledger as T
 use Rattle.rules.proofs.Parcel as P

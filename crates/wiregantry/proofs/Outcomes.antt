@@ -6,7 +6,8 @@ use Rattle.rules.specs.declared.Run.{Run}
 use Rattle.rules.specs.declared.Step.{Step}
 use Rattle.rules.specs.declared.Named.{Named}
 use Rattle.rules.specs.declared.Named.the-variants.{Is, NoStep}
-use Rattle.rules.specs.meaning.Runs.{State, Stepped}
+use Rattle.rules.specs.meaning.States.{State}
+use Rattle.rules.specs.meaning.Runs.{Stepped}
 use Rattle.rules.specs.meaning.StepLines.{stepFor}
 use Rattle.rules.specs.meaning.Calls.{Called, namedAnswer, namedAfter}
 

@@ -11,7 +11,8 @@ ghost use Rattle.rules.specs.meaning.Bursts.{Handled};
 ghost use Rattle.rules.specs.meaning.Calls.{Called};
 ghost use Rattle.rules.specs.meaning.Members.{Answered};
 ghost use Rattle.rules.specs.meaning.Reports.{Told};
-ghost use Rattle.rules.specs.meaning.Runs.{lent, Freshened};
+ghost use Rattle.rules.specs.meaning.States.{lent};
+ghost use Rattle.rules.specs.meaning.Runs.{Freshened};
 ghost use Rattle.rules.specs.meaning.Writing.{checkOf, Filled};
 
 // A fresh run of these sizes: "every word, slot and counter 0".

@@ -11,7 +11,11 @@ use Rattle.rules.specs.meaning.Operations.{raiseRefusal, raiseAnswer, ra
 use Rattle.rules.specs.meaning.Parcels.{noParcel, isFree, isOccupied, slotsSound, waiting, lowestFree}
 use Rattle.rules.specs.meaning.Ledgers.{emptyLedger, ledgerSound, oneMore, raisedIf}
 use Rattle.rules.specs.meaning.Put.{put}
-use Rattle.rules.specs.meaning.Runs.{State, lent, tableAt, withTable, sizesRight, tablesSound, allSound, slotOf, firstGiven, refusalIn, valueIn, wordsIn, placeIn, parcelIn, counterOf, refusalOf, valueOf, after}
+use Rattle.rules.specs.meaning.Refusals.{firstGiven}
+use Rattle.rules.specs.meaning.Kinds.{slotOf, numbers}
+use Rattle.rules.specs.meaning.States.{State, lent, tableAt, withTable, sizesRight, tablesSound, allSound}
+use Rattle.rules.specs.meaning.Steps.{effect}
+use Rattle.rules.specs.meaning.Runs.{refusalIn, refusalOf, valueOf, after}
 use Rattle.rules.specs.meaning.Histories.{ran}
 use Rattle.rules.specs.meaning.Lines.{namesStep}
 use Rattle.rules.specs.meaning.StepLines.{stepFor}
@@ -37,7 +41,7 @@ abbrev left : State
 left = lent (7 ∷ 1 ∷ 7 ∷ 1 ∷ []) (noParcel ∷ noParcel ∷ []) (record { sent = 1; copied = 0; absorbed = 1; lost = 0 })
 
 pub burst-case : Handled sizes before asks given 0 left said
-unfolding asksOf stepsIn answersTo burstRefusal put namedAnswer namedAfter namesStep stepFor listed afterAdd afterRemove unused soundFrom lengthOf held shown rank push withLength raised heldWith merged newIds rises raiseRefusal raiseAnswer raiseTable removedLength removeRefusal removeTable mergeRefusal mergeAnswer mergeTable isFree isOccupied slotsSound waiting lowestFree ledgerSound oneMore raisedIf tableAt withTable sizesRight tablesSound allSound slotOf firstGiven refusalIn valueIn wordsIn placeIn parcelIn counterOf refusalOf valueOf after ran
+unfolding asksOf stepsIn answersTo burstRefusal put namedAnswer namedAfter namesStep stepFor listed afterAdd afterRemove unused soundFrom lengthOf held shown rank push withLength raised heldWith merged newIds rises raiseRefusal raiseAnswer raiseTable removedLength removeRefusal removeTable mergeRefusal mergeAnswer mergeTable isFree isOccupied slotsSound waiting lowestFree ledgerSound oneMore raisedIf tableAt withTable sizesRight tablesSound allSound slotOf numbers firstGiven refusalIn effect refusalOf valueOf after ran
 burst-case = record { refusal = refl; state = refl; answers = refl }
 
 -- words of another number, and a table that is not sound

@@ -9,7 +9,7 @@ use lib.ListN.{replicate}
 use Rattle.rules.specs.meaning.Text.{ascii, behind}
 use Rattle.rules.specs.meaning.Number.{upTo, digits, digitOf, digitRun, fair, judged, readNumber}
 use Rattle.rules.specs.meaning.Lines.{lead, field, textOf, namesStep, firstOf, kindOf, readField, numbersOf}
-use Rattle.rules.specs.meaning.Runs.{firstGiven}
+use Rattle.rules.specs.meaning.Refusals.{firstGiven}
 use Rattle.rules.specs.meaning.Put.{put}
 use Rattle.rules.specs.meaning.Writing.{checkOf}
 use Rattle.rules.specs.meaning.Area.{little, laid, isNoLine, readRefusal, areaAfter}

@@ -18,7 +18,11 @@ use Rattle.rules.specs.declared.Step.{Step}
 use Rattle.rules.specs.declared.Step.the-variants.{Add, Send, Merge, Deliver, Again, Lose}
 use Rattle.rules.specs.meaning.Parcels.{noParcel, isFree, isOccupied, slotsSound, waiting, lowestFree, cleared}
 use Rattle.rules.specs.meaning.Ledgers.{ledgerSound, emptyLedger, oneMore, raisedIf}
-use Rattle.rules.specs.meaning.Runs.{State, lent, tableAt, withTable, sizesRight, tablesSound, allSound, slotOf, firstGiven, refusalIn, valueIn, wordsIn, placeIn, parcelIn, counterOf, refusalOf, valueOf, answerOf, after, freshRefusal, afterFresh}
+use Rattle.rules.specs.meaning.Refusals.{firstGiven}
+use Rattle.rules.specs.meaning.Kinds.{slotOf, numbers}
+use Rattle.rules.specs.meaning.States.{State, lent, tableAt, withTable, sizesRight, tablesSound, allSound}
+use Rattle.rules.specs.meaning.Steps.{effect}
+use Rattle.rules.specs.meaning.Runs.{refusalIn, refusalOf, valueOf, answerOf, after, freshRefusal, afterFresh}
 use Rattle.rules.specs.meaning.Put.{put}
 use Rattle.rules.specs.meaning.Members.{bitsOf, bytesOf, answersOf, membersRefusal, membersAfter}
 use Rattle.rules.specs.meaning.Operations.{queryAnswer, raiseRefusal, raiseAnswer, raiseTable, addAnswer, addTable, absorbAnswer, absorbTable, removedLength, removeRefusal, removeAnswer, removeTable, mergeRefusal, mergeAnswer, mergeTable}
@@ -182,5 +186,5 @@ cases =
     ∷ []
 
 pub cases-hold : all cases ≡ true
-unfolding cases listed afterAdd afterRemove unused soundFrom lengthOf held shown rank push withLength raised heldWith merged newIds rises raiseRefusal raiseAnswer raiseTable removedLength removeRefusal removeTable mergeRefusal mergeAnswer mergeTable isFree isOccupied slotsSound waiting lowestFree cleared ledgerSound oneMore raisedIf tableAt withTable sizesRight tablesSound allSound slotOf firstGiven refusalIn valueIn wordsIn placeIn parcelIn counterOf refusalOf valueOf after freshRefusal afterFresh put bitsOf bytesOf answersOf membersRefusal membersAfter
+unfolding cases listed afterAdd afterRemove unused soundFrom lengthOf held shown rank push withLength raised heldWith merged newIds rises raiseRefusal raiseAnswer raiseTable removedLength removeRefusal removeTable mergeRefusal mergeAnswer mergeTable isFree isOccupied slotsSound waiting lowestFree cleared ledgerSound oneMore raisedIf tableAt withTable sizesRight tablesSound allSound slotOf numbers firstGiven refusalIn effect refusalOf valueOf after freshRefusal afterFresh put bitsOf bytesOf answersOf membersRefusal membersAfter
 cases-hold = refl

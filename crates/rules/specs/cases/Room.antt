@@ -13,8 +13,12 @@ use Rattle.rules.specs.meaning.Table.{unused, soundFrom, lengthOf, held,
 use Rattle.rules.specs.meaning.Operations.{raiseRefusal, raiseTable, removeRefusal, removeTable, mergeRefusal, mergeTable}
 use Rattle.rules.specs.meaning.Parcels.{isFree, isOccupied, slotsSound, waiting, lowestFree, cleared}
 use Rattle.rules.specs.meaning.Ledgers.{ledgerSound, oneMore, raisedIf}
-use Rattle.rules.specs.meaning.Runs.{State, tableAt, withTable, sizesRight, tablesSound, allSound, slotOf, sightOf, firstGiven, refusalIn, wordsIn, placeIn, parcelIn, counterOf, refusalOf, after, freshRefusal, afterFresh}
-use Rattle.rules.specs.meaning.Histories.{ran, siteIn, idsOf, offer, offeredIn, offered, among, distinct}
+use Rattle.rules.specs.meaning.Refusals.{firstGiven}
+use Rattle.rules.specs.meaning.Kinds.{slotOf, numbers}
+use Rattle.rules.specs.meaning.States.{State, tableAt, withTable, sizesRight, tablesSound, allSound, sightOf}
+use Rattle.rules.specs.meaning.Steps.{siteIn, idsOf, effect}
+use Rattle.rules.specs.meaning.Runs.{refusalIn, refusalOf, after, freshRefusal, afterFresh}
+use Rattle.rules.specs.meaning.Histories.{ran, offeredIn, offered, among, distinct}
 use Rattle.rules.specs.cases.Marked.{two-sites, ledger-of, waiting-for-1}
 use Rattle.rules.specs.laws.history.Room.{room-suffices}
 
@@ -49,7 +53,7 @@ pub record RoomMet : Type 0 where
   pub two-ids : distinct (offered two-sites (afterFresh two-sites stood) 0 all-steps) ≡ 2
 
 pub room-met : RoomMet
-unfolding refusals ran siteIn idsOf offer offeredIn offered among distinct listed afterAdd afterRemove unused soundFrom lengthOf held push withLength raised heldWith merged newIds rises raiseRefusal raiseTable removeRefusal removeTable mergeRefusal mergeTable isFree isOccupied slotsSound waiting lowestFree cleared ledgerSound oneMore raisedIf tableAt withTable sizesRight tablesSound allSound slotOf firstGiven refusalIn wordsIn placeIn parcelIn counterOf refusalOf after freshRefusal afterFresh
+unfolding refusals ran siteIn effect idsOf offeredIn offered among distinct listed afterAdd afterRemove unused soundFrom lengthOf held push withLength raised heldWith merged newIds rises raiseRefusal raiseTable removeRefusal removeTable mergeRefusal mergeTable isFree isOccupied slotsSound waiting lowestFree cleared ledgerSound oneMore raisedIf tableAt withTable sizesRight tablesSound allSound slotOf numbers firstGiven refusalIn refusalOf after freshRefusal afterFresh
 room-met = record { made = refl; refused = refl; gains = refl; offers = refl; one-id = refl; two-ids = refl }
 
 -- so the promise speaks of it

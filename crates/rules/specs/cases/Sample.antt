@@ -17,8 +17,12 @@ use Rattle.rules.specs.laws.table.View.{parts}
 use Rattle.rules.specs.meaning.Operations.{raiseRefusal, raiseTable, removeRefusal, removeTable, mergeRefusal, mergeTable}
 use Rattle.rules.specs.meaning.Parcels.{noParcel, isFree, isOccupied, slotsSound, waiting, lowestFree, cleared}
 use Rattle.rules.specs.meaning.Ledgers.{ledgerSound, emptyLedger, oneMore, raisedIf}
-use Rattle.rules.specs.meaning.Runs.{State, lent, tableAt, withTable, sizesRight, tablesSound, allSound, slotOf, firstGiven, refusalIn, valueIn, wordsIn, placeIn, parcelIn, counterOf, refusalOf, valueOf, answerOf, after, freshRefusal, afterFresh}
-use Rattle.rules.specs.meaning.Histories.{ran, isSend, isAgain, isDeliver, isLose, acceptedOf, Pair, entriesOf, siteIn, given, absorbedIn, absorbed, largest, occurs, within, samePairs, idsOf, offer, offeredIn, offered, among, distinct}
+use Rattle.rules.specs.meaning.Refusals.{firstGiven}
+use Rattle.rules.specs.meaning.Kinds.{slotOf, isSend, isAgain, isDeliver, isLose, numbers}
+use Rattle.rules.specs.meaning.States.{State, lent, tableAt, withTable, sizesRight, tablesSound, allSound}
+use Rattle.rules.specs.meaning.Steps.{Pair, entriesOf, siteIn, idsOf, effect}
+use Rattle.rules.specs.meaning.Runs.{refusalIn, refusalOf, valueOf, answerOf, after, freshRefusal, afterFresh}
+use Rattle.rules.specs.meaning.Histories.{ran, acceptedOf, absorbedIn, absorbed, largest, occurs, within, samePairs, offeredIn, offered, among, distinct}
 use Rattle.rules.specs.cases.Marked.{all, same, ledger-of, parcel, same-ledger}
 
 -- a pair of an id and a length
@@ -123,7 +127,7 @@ sampleCases =
 
 -- document 01's sample run is what the definitions make of its steps: refusals, values, counters, tables, what is absorbed and what is offered
 pub sample-holds : all sampleCases ≡ true
-unfolding sampleCases refusals values listed afterAdd afterRemove unused soundFrom lengthOf held push withLength raised heldWith merged newIds rises raiseRefusal raiseTable removeRefusal removeTable mergeRefusal mergeTable isFree isOccupied slotsSound waiting lowestFree cleared ledgerSound oneMore raisedIf tableAt withTable sizesRight tablesSound allSound slotOf firstGiven refusalIn valueIn wordsIn placeIn parcelIn counterOf refusalOf valueOf after freshRefusal afterFresh ran isSend isAgain isDeliver isLose acceptedOf entriesOf siteIn given absorbedIn absorbed largest occurs within idsOf offer offeredIn offered among distinct
+unfolding sampleCases refusals values listed afterAdd afterRemove unused soundFrom lengthOf held push withLength raised heldWith merged newIds rises raiseRefusal raiseTable removeRefusal removeTable mergeRefusal mergeTable isFree isOccupied slotsSound waiting lowestFree cleared ledgerSound oneMore raisedIf tableAt withTable sizesRight tablesSound allSound slotOf numbers firstGiven refusalIn effect refusalOf valueOf after freshRefusal afterFresh ran acceptedOf entriesOf siteIn absorbedIn absorbed largest occurs within idsOf offeredIn offered among distinct
 sample-holds = refl
 
 -- ---- "two sites in one run that absorbed the same set of id and length pairs, in whichever order and however often": such a run
@@ -157,7 +161,7 @@ pairCases =
 
 -- the two sites absorb these pairs, in another order and not as often, and hold the same table
 pub pairs-hold : all pairCases ≡ true
-unfolding pairCases refusals values listed afterAdd afterRemove unused soundFrom lengthOf held push withLength raised heldWith merged newIds rises raiseRefusal raiseTable removeRefusal removeTable mergeRefusal mergeTable isFree isOccupied slotsSound waiting lowestFree cleared ledgerSound oneMore raisedIf tableAt withTable sizesRight tablesSound allSound slotOf firstGiven refusalIn valueIn wordsIn placeIn parcelIn counterOf refusalOf valueOf after freshRefusal afterFresh ran isSend isAgain isDeliver isLose acceptedOf entriesOf siteIn given absorbedIn absorbed largest occurs within idsOf offer offeredIn offered among distinct
+unfolding pairCases refusals values listed afterAdd afterRemove unused soundFrom lengthOf held push withLength raised heldWith merged newIds rises raiseRefusal raiseTable removeRefusal removeTable mergeRefusal mergeTable isFree isOccupied slotsSound waiting lowestFree cleared ledgerSound oneMore raisedIf tableAt withTable sizesRight tablesSound allSound slotOf numbers firstGiven refusalIn effect refusalOf valueOf after freshRefusal afterFresh ran acceptedOf entriesOf siteIn absorbedIn absorbed largest occurs within idsOf offeredIn offered among distinct
 pairs-hold = refl
 
 -- a test that two lists of words are the same tells that they are

@@ -8,7 +8,8 @@ use Rattle.rules.specs.declared.Answer.{Answer}
 use Rattle.rules.specs.declared.Run.{Run}
 use Rattle.rules.specs.declared.Step.{Step}
 use Rattle.rules.specs.declared.Reported.{Reported}
-use Rattle.rules.specs.meaning.Runs.{State, Stepped, Freshened}
+use Rattle.rules.specs.meaning.States.{State}
+use Rattle.rules.specs.meaning.Runs.{Stepped, Freshened}
 use Rattle.rules.specs.meaning.Calls.{Called}
 use Rattle.rules.specs.meaning.Acts.{Acted}
 use Rattle.rules.specs.meaning.Bursts.{Handled}

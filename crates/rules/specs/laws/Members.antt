@@ -14,7 +14,7 @@ use lib.Dec.{eqb, ltb}
 use borrow.Author.Tests.{le-ltb}
 use Rattle.rules.specs.meaning.Table.{SoundTable}
 use Rattle.rules.specs.meaning.Operations.{unlessRefused}
-use Rattle.rules.specs.meaning.Runs.{firstGiven}
+use Rattle.rules.specs.meaning.Refusals.{firstGiven}
 use Rattle.rules.specs.meaning.Members.{isMember, bitsOf, bytesOf, bytesFor, answersOf, membersRefusal, membersAfter, Answered}
 use Rattle.rules.specs.meaning.Put.{put}
 use Rattle.rules.specs.laws.Put.{put-nil, put-front}

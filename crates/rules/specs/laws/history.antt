@@ -3,7 +3,6 @@ pub mod Figure4
 pub mod Rising
 pub mod Counting
 pub mod Pairs
-pub mod Gains
 pub mod Absorbing
 pub mod Distinct
 pub mod Climbing

@@ -5,6 +5,8 @@ pub mod Zeros
 pub mod Slots
 pub mod Ledgers
 pub mod Steps
+pub mod Owed
+pub mod Rows
 pub mod Sound
 pub mod Acts
 pub mod Bursts

@@ -8,10 +8,12 @@ use lib.Dec.{eqb}
 use Rattle.rules.specs.declared.Answer.{Answer}
 use Rattle.rules.specs.declared.Run.{Run}
 use Rattle.rules.specs.declared.Step.{Step}
-use Rattle.rules.specs.declared.Step.the-variants.{Add, Remove, Query, Send, Merge, Deliver, Again, Lose}
 use Rattle.rules.specs.meaning.Operations.{answer}
 use Rattle.rules.specs.meaning.Parcels.{noParcel, lowestFree}
-use Rattle.rules.specs.meaning.Runs.{State, sightWith, judgeTests, firstGiven, answerOf, after, stateBy, StateSound}
+use Rattle.rules.specs.meaning.Refusals.{firstGiven}
+use Rattle.rules.specs.meaning.Kinds.{takesSlot, freesSlot, slotOf}
+use Rattle.rules.specs.meaning.States.{State, sightWith, StateSound}
+use Rattle.rules.specs.meaning.Runs.{judgeTests, answerOf, after, stateBy}
 
 -- what 1 and 2 say of a state: one of them, or 0
 unfoldable pub judgedOf : Run → State → ℕ
@@ -35,14 +37,7 @@ pub record Acted (refused : ℕ) (run : Run) (before : State) (step : Step) (r :
 
 -- ---- the next step's `low`, from this one's, its answer, and the slot that it sets
 unfoldable pub lowTaken : ℕ → Step → ℕ → ℕ
-lowTaken low (Add k e) v = low
-lowTaken low (Remove k e) v = low
-lowTaken low (Query k e) v = low
-lowTaken low (Send f t e) v = v
-lowTaken low (Merge f t) v = low
-lowTaken low (Deliver i) v = min low i
-lowTaken low (Again i) v = v
-lowTaken low (Lose i) v = min low i
+lowTaken low step v = cond (takesSlot step) v (cond (freesSlot step) (min low (slotOf step)) low)
 
 unfoldable pub lowAfter : ℕ → Step → Answer → ℕ
 lowAfter low step a = cond (eqb (a .refusal) 0) (lowTaken low step (a .value)) low

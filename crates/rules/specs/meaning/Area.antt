@@ -10,7 +10,7 @@ use Rattle.rules.specs.declared.Line.the-variants.{Numbers, NoLine}
 use Rattle.rules.specs.meaning.Operations.{unlessRefused}
 use Rattle.rules.specs.meaning.Lines.{numbersOf}
 use Rattle.rules.specs.meaning.Put.{put}
-use Rattle.rules.specs.meaning.Runs.{_when_, firstGiven}
+use Rattle.rules.specs.meaning.Refusals.{_when_, firstGiven}
 
 -- a number in k bytes, the lowest first
 unfoldable pub little : ℕ → ℕ → List ℕ

@@ -14,7 +14,9 @@ use Rattle.rules.specs.declared.Named.the-variants.{Is, NoStep}
 use Rattle.rules.specs.meaning.Operations.{unlessRefused}
 use Rattle.rules.specs.meaning.Parcels.{noParcel}
 use Rattle.rules.specs.meaning.Put.{put}
-use Rattle.rules.specs.meaning.Runs.{State, sightWith, judgeTests, _when_, firstGiven, stateBy}
+use Rattle.rules.specs.meaning.Refusals.{_when_, firstGiven}
+use Rattle.rules.specs.meaning.States.{State, sightWith}
+use Rattle.rules.specs.meaning.Runs.{judgeTests, stateBy}
 use Rattle.rules.specs.meaning.Histories.{ran}
 use Rattle.rules.specs.meaning.StepLines.{stepFor}
 use Rattle.rules.specs.meaning.Calls.{namedAnswer, namedAfter}

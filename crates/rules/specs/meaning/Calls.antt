@@ -7,7 +7,8 @@ use Rattle.rules.specs.declared.Run.{Run}
 use Rattle.rules.specs.declared.Named.{Named}
 use Rattle.rules.specs.declared.Named.the-variants.{Is, NoStep}
 use Rattle.rules.specs.meaning.Operations.{answer}
-use Rattle.rules.specs.meaning.Runs.{State, answerOf, after}
+use Rattle.rules.specs.meaning.States.{State}
+use Rattle.rules.specs.meaning.Runs.{answerOf, after}
 use Rattle.rules.specs.meaning.StepLines.{stepFor}
 
 unfoldable pub namedAnswer : Run → State → Named → Answer

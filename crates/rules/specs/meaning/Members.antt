@@ -11,7 +11,7 @@ use Rattle.rules.specs.meaning.Lengths.{M, listed}
 use Rattle.rules.specs.meaning.Table.{sound, lengthOf}
 use Rattle.rules.specs.meaning.Operations.{unlessRefused}
 use Rattle.rules.specs.meaning.Put.{put}
-use Rattle.rules.specs.meaning.Runs.{_when_, firstGiven}
+use Rattle.rules.specs.meaning.Refusals.{_when_, firstGiven}
 
 -- the answer for an id
 abbrev pub isMember : List ℕ → ℕ → Bool

@@ -9,7 +9,6 @@ use lib.Dec.{ltb, eqb}
 use Rattle.rules.specs.declared.Run.{Run}
 use Rattle.rules.specs.declared.Ledger.{Ledger}
 use Rattle.rules.specs.declared.Step.{Step}
-use Rattle.rules.specs.declared.Step.the-variants.{Add, Remove, Query, Send, Merge, Deliver, Again, Lose}
 use Rattle.rules.specs.declared.Named.{Named}
 use Rattle.rules.specs.declared.Named.the-variants.{Is, NoStep}
 use Rattle.rules.specs.declared.Reported.{Reported}
@@ -17,7 +16,10 @@ use Rattle.rules.specs.meaning.Lengths.{listed}
 use Rattle.rules.specs.meaning.Table.{held}
 use Rattle.rules.specs.meaning.Parcels.{noParcel, waiting}
 use Rattle.rules.specs.meaning.Ledgers.{emptyLedger}
-use Rattle.rules.specs.meaning.Runs.{State, lent, tableAt, _when_, firstGiven, refusalOf, valueOf}
+use Rattle.rules.specs.meaning.States.{State, lent, tableAt}
+use Rattle.rules.specs.meaning.Refusals.{_when_, firstGiven}
+use Rattle.rules.specs.meaning.Runs.{refusalOf, valueOf, after}
+use Rattle.rules.specs.meaning.Kinds.{numbers, isQuery}
 use Rattle.rules.specs.meaning.Text.{ascii}
 use Rattle.rules.specs.meaning.Number.{digits}
 use Rattle.rules.specs.meaning.StepLines.{stepOf}
@@ -74,14 +76,7 @@ endLines s = ledgerLines (s .ledger) (waiting (s .slots)) ++ siteLines (reportRu
 -- ---- what each line of the input adds to the report; what it does to the state is that of a step by its numbers
 -- an accepted step says nothing, unless it is a query
 unfoldable pub acceptedLine : ℕ → Step → ℕ → List ℕ
-acceptedLine n (Add k e) m = []
-acceptedLine n (Remove k e) m = []
-acceptedLine n (Query k e) m = queryLine n k e m
-acceptedLine n (Send f t e) m = []
-acceptedLine n (Merge f t) m = []
-acceptedLine n (Deliver i) m = []
-acceptedLine n (Again i) m = []
-acceptedLine n (Lose i) m = []
+acceptedLine n step m = cond (isQuery step) (queryLine n (numbers step .first) (numbers step .id) m) []
 
 abbrev pub lineBy : ℕ → ℕ → Step → ℕ → List ℕ
 lineBy zero n step m = acceptedLine n step m

@@ -10,6 +10,7 @@ use Rattle.rules.specs.declared.Line.{Line}
 use Rattle.rules.specs.declared.Line.the-variants.{Numbers, NoLine}
 use Rattle.rules.specs.declared.Named.{Named}
 use Rattle.rules.specs.declared.Named.the-variants.{Is, NoStep}
+use Rattle.rules.specs.meaning.Kinds.{numbers}
 use Rattle.rules.specs.meaning.Lines.{textOf, namesStep, numbersOf}
 
 -- ---- "kind (1 add, 2 remove, 3 query, 4 send, 5 merge, 6 deliver, 7 again, 8 lose), first site or slot, second site, id; unused ones 0"
@@ -36,25 +37,11 @@ stepIn NoLine = NoStep
 
 -- ---- the two: the line of a step, and the step of a text
 unfoldable pub lineOf : Step → List ℕ
-lineOf (Add k e) = textOf 1 k 0 e
-lineOf (Remove k e) = textOf 2 k 0 e
-lineOf (Query k e) = textOf 3 k 0 e
-lineOf (Send f t e) = textOf 4 f t e
-lineOf (Merge f t) = textOf 5 f t 0
-lineOf (Deliver i) = textOf 6 i 0 0
-lineOf (Again i) = textOf 7 i 0 0
-lineOf (Lose i) = textOf 8 i 0 0
+lineOf step = textOf (numbers step .kind) (numbers step .first) (numbers step .second) (numbers step .id)
 
 unfoldable pub stepOf : List ℕ → Named
 stepOf xs = stepIn (numbersOf xs)
 
 -- a step whose numbers fit 64 bits
 abbrev pub Fits : Step → Type 0
-Fits (Add k e) = (k < 2 ^ 64) × (e < 2 ^ 64)
-Fits (Remove k e) = (k < 2 ^ 64) × (e < 2 ^ 64)
-Fits (Query k e) = (k < 2 ^ 64) × (e < 2 ^ 64)
-Fits (Send f t e) = (f < 2 ^ 64) × (t < 2 ^ 64) × (e < 2 ^ 64)
-Fits (Merge f t) = (f < 2 ^ 64) × (t < 2 ^ 64)
-Fits (Deliver i) = i < 2 ^ 64
-Fits (Again i) = i < 2 ^ 64
-Fits (Lose i) = i < 2 ^ 64
+Fits step = (numbers step .first < 2 ^ 64) × (numbers step .second < 2 ^ 64) × (numbers step .id < 2 ^ 64)

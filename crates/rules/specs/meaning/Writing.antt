@@ -9,7 +9,7 @@ use lib.Dec.{ltb, eqb}
 use lib.ListN.{length}
 use Rattle.rules.specs.meaning.Lines.{textOf, namesStep}
 use Rattle.rules.specs.meaning.Put.{put}
-use Rattle.rules.specs.meaning.Runs.{_when_, firstGiven}
+use Rattle.rules.specs.meaning.Refusals.{_when_, firstGiven}
 
 -- whether four numbers can be written into so much room
 unfoldable pub checkOf : ℕ → ℕ → ℕ → ℕ → ℕ → ℕ

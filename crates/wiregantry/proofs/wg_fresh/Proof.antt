@@ -37,7 +37,8 @@ use denote.Exit.{yes}
 use Rattle.rules.specs.declared.Ledger.{Ledger}
 use Rattle.rules.specs.declared.Parcel.{Parcel}
 use Rattle.rules.specs.declared.Run.{Run}
-use Rattle.rules.specs.meaning.Runs.{lent, Freshened}
+use Rattle.rules.specs.meaning.States.{lent}
+use Rattle.rules.specs.meaning.Runs.{Freshened}
 use Rattle.ledger.proofs.Lent.{ref, typed}
 use Rattle.wiregantry.proofs.OnFresh.{Fresh, sizes-val, gave-fresh}
 use Rattle.rules.proofs.Ledger as T

@@ -45,7 +45,7 @@ use Rattle.rules.specs.declared.Named.the-variants.{Is as IsStep, NoStep}
 use Rattle.rules.specs.declared.Parcel.{Parcel}
 use Rattle.rules.specs.declared.Run.{Run}
 use Rattle.rules.specs.meaning.Calls.{Called}
-use Rattle.rules.specs.meaning.Runs.{lent}
+use Rattle.rules.specs.meaning.States.{lent}
 use Rattle.rules.specs.meaning.StepLines.{stepFor}
 use Rattle.ledger.proofs.Lent.{ref, typed, told, is-at}
 use Rattle.parcels.proofs.Calls.{calls-value}

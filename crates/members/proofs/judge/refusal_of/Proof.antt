@@ -3,7 +3,7 @@
 use Prim.Native.Nat.{_≤_, _<_}
 use mathlib.Core.Path.{_≡_, sym, _∙_}
 use borrow.Author.Tests.{lt-ltb, le-ltb, not-true, not-false}
-use Rattle.rules.specs.meaning.Runs.{firstGiven}
+use Rattle.rules.specs.meaning.Refusals.{firstGiven}
 use Rattle.rules.specs.meaning.Members.{bytesFor, membersRefusal}
 use native.Mathlib.Omega.{arith}
 use borrow.Author.Needs.{needs}

@@ -1,6 +1,6 @@
 -- `report::ends::write_ending`: the ledger, and the sites behind it. Assumes nothing.
 use denote.Ref.{now}
-use Rattle.rules.specs.meaning.Runs.{lent}
+use Rattle.rules.specs.meaning.States.{lent}
 use Rattle.rules.specs.meaning.Reports.{ledgerLines, siteLines, endLines}
 use Rattle.report.proofs.Left.{left-all, left-room, left-next, left-fits, left-as, laid-last}
 use Rattle.report.proofs.Counted.{three-tables, end-pieces}

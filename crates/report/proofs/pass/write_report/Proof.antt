@@ -55,7 +55,7 @@ use Rattle.rules.specs.declared.Run.{Run}
 use Rattle.rules.specs.meaning.Ledgers.{emptyLedger}
 use Rattle.rules.specs.meaning.Parcels.{noParcel}
 use Rattle.rules.specs.meaning.Put.{put}
-use Rattle.rules.specs.meaning.Runs.{State as Whole, lent}
+use Rattle.rules.specs.meaning.States.{State as Whole, lent}
 use Rattle.rules.specs.meaning.Acts.{Clear, Acted}
 use Rattle.rules.specs.meaning.Reports.{reportRun, inputLimit, reportRoom, lineBy, endLines, reportOf}
 use Rattle.report.specs.declared.ahead.Ahead.{Ahead}

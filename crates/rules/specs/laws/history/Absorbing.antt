@@ -3,25 +3,28 @@
 -- Assumes nothing.
 use Prim.Native.Nat.{ℕ, zero, suc, _≤_, _<_}
 use native.Mathlib.Omega.{arith}
-use mathlib.Core.Bool.{true, _&&_, cond}
+use mathlib.Core.Bool.{Bool, true, false, _&&_, cond}
 use mathlib.Core.Path.{_≡_, refl, sym, _∙_}
 use mathlib.Core.List.{List, [], _∷_}
 use lib.ListN.{length}
 use lib.Dec.{eqb}
-use borrow.Author.Tests.{ne-eqb}
+use borrow.Author.Tests.{eqb-true, eqb-false, ne-eqb}
 use Rattle.rules.specs.declared.Run.{Run}
 use Rattle.rules.specs.declared.Step.{Step}
 use Rattle.rules.specs.meaning.Lengths.{M, join}
 use Rattle.rules.specs.meaning.Table.{lengthOf}
 use Rattle.rules.specs.laws.table.Law.{law, of-unused}
-use Rattle.rules.specs.meaning.Runs.{State, tableAt, sightOf, refusalOf, after, freshRefusal, afterFresh}
-use Rattle.rules.specs.meaning.Histories.{ran, siteIn, given, absorbedIn, absorbed, largest, samePairs}
-use Rattle.rules.specs.laws.run.Steps.{refused-stays}
+use Rattle.rules.specs.meaning.States.{State, tableAt, sightOf}
+use Rattle.rules.specs.meaning.Steps.{siteIn}
+use Rattle.rules.specs.meaning.Runs.{refusalOf, after, freshRefusal, afterFresh, effectOf}
+use Rattle.rules.specs.meaning.Histories.{ran, absorbedIn, absorbed, largest, samePairs}
+use Rattle.rules.specs.laws.run.Steps.{refused-stays, accepted-moves}
 use Rattle.rules.specs.laws.run.Tables.{site-sound, site-length}
 use Rattle.rules.specs.laws.run.Sound.{fresh-unused}
 use Rattle.rules.specs.laws.history.Pairs.{largest-append, same-largest}
 use Rattle.rules.specs.laws.history.Counting.{fresh-ran-sound}
-use Rattle.rules.specs.laws.history.Gains.{gains, nothing-gained}
+use Rattle.rules.specs.laws.run.Owed.{Gains, nothing-gained}
+use Rattle.rules.specs.laws.run.Rows.{owed}
 
 -- ---- one step in any state, and a list of them
 -- "the length held is the largest it has absorbed", one step on: the join of the length before with what the step let the site absorb
@@ -30,10 +33,16 @@ pub step-absorbs : (run : Run) (s : State) (step : Step) (k e : ℕ)
 unfolding absorbedIn
 step-absorbs run s step k e = go (refusalOf run s step) refl
   where
+    -- the site that gains, and any other
+    here : (b : Bool) → eqb (siteIn run (sightOf run s step) step) k ≡ b → Gains run (s .words) (siteIn run (sightOf run s step) step) (effectOf run s step .gain)
+        → lengthOf (tableAt run (effectOf run s step .gain .words) k) e ≡ join (lengthOf (tableAt run (s .words) k) e) (largest (cond b (effectOf run s step .gain .given) []) e)
+    here true q g = rw (← eqb-true _ k q) (g .joined e)
+    here false q g = rw (g .others k (λ z. eqb-false _ k q (sym z))) (nothing-gained (lengthOf (tableAt run (s .words) k) e) e)
+
     go : (r : ℕ) → refusalOf run s step ≡ r
         → lengthOf (tableAt run (after run s step .words) k) e
-        ≡ join (lengthOf (tableAt run (s .words) k) e) (largest (cond (eqb r 0 && eqb (siteIn run (sightOf run s step) step) k) (given run s step) []) e)
-    go zero h = gains run s k e step h
+        ≡ join (lengthOf (tableAt run (s .words) k) e) (largest (cond (eqb r 0 && eqb (siteIn run (sightOf run s step) step) k) (effectOf run s step .gain .given) []) e)
+    go zero h = rw (accepted-moves run s step h) (here (eqb (siteIn run (sightOf run s step) step) k) refl (owed run s step .tables .gains h))
     go (suc r) h = rw (refused-stays run s step r h, ne-eqb (suc r) 0 (omega arith)) (nothing-gained (lengthOf (tableAt run (s .words) k) e) e)
 
 -- the same over a list of steps, "refused ones among them"

@@ -1,22 +1,63 @@
 -- A list of steps from fresh: the state stays sound, so that refusals 1 and 2 never come; each counter is the number of accepted steps of its
 -- kind; and the books balance.
 -- Assumes nothing.
-use Prim.Native.Nat.{ℕ, suc, _+_}
+use Prim.Native.Nat.{ℕ, zero, suc, _+_}
 use native.Mathlib.Omega.{arith}
 use mathlib.Core.Bool.{Bool, true, false, _&&_, cond}
-use mathlib.Core.Path.{_≡_, refl, ap, _∙_}
+use mathlib.Core.Path.{_≡_, refl, sym, ap, _∙_}
 use mathlib.Core.List.{List, [], _∷_}
 use lib.ListN.{length}
+use lib.Dec.{eqb}
+use borrow.Author.Tests.{ne-eqb}
 use Rattle.rules.specs.declared.Run.{Run}
 use Rattle.rules.specs.declared.Step.{Step}
 use Rattle.rules.specs.meaning.Lengths.{M}
 use Rattle.rules.specs.meaning.Parcels.{waiting}
 use Rattle.rules.specs.meaning.Ledgers.{emptyLedger}
-use Rattle.rules.specs.meaning.Runs.{State, refusalOf, after, freshRefusal, afterFresh, StateSound}
-use Rattle.rules.specs.meaning.Histories.{ran, isAccepted, isSend, isAgain, isDeliver, isLose, acceptedOf}
+use Rattle.rules.specs.meaning.Kinds.{isSend, isAgain, isDeliver, isLose}
+use Rattle.rules.specs.meaning.States.{State, StateSound}
+use Rattle.rules.specs.meaning.Runs.{refusalOf, after, freshRefusal, afterFresh, moved, stateBy}
+use Rattle.rules.specs.meaning.Histories.{ran, isAccepted, acceptedOf}
 use Rattle.rules.specs.laws.run.Ledgers.{balanced}
-use Rattle.rules.specs.laws.run.Steps.{never-unsound, sent-count, copied-count, absorbed-count, lost-count}
+use Rattle.rules.specs.laws.run.Steps.{sound-judged}
+use Rattle.rules.specs.laws.run.Owed.{given-numbered}
+use Rattle.rules.specs.laws.run.Rows.{owed}
 use Rattle.rules.specs.laws.run.Sound.{fresh-sound, words-stay-long, slots-stay-long, after-sound}
+
+-- ---- one step
+module _ (run : Run) (s : State) where
+  -- a count that rises where an accepted step is of its kind
+  counted : (step : Step) (kind : Bool) (count : State → ℕ) → (refusalOf run s step ≡ 0 → count (moved run s step) ≡ cond kind (suc (count s)) (count s))
+      → count (after run s step) ≡ cond (isAccepted run s step && kind) (suc (count s)) (count s)
+  unfolding after
+  counted step kind count move = go (refusalOf run s step) refl
+    where
+      go : (r : ℕ) → refusalOf run s step ≡ r → count (stateBy r s (moved run s step)) ≡ cond (eqb r 0 && kind) (suc (count s)) (count s)
+      go zero e = move e
+      go (suc r) e = rw (ne-eqb (suc r) 0 (omega arith))
+
+  -- sent is one more exactly for an accepted send
+  pub sent-count : (step : Step) → after run s step .ledger .sent ≡ cond (isAccepted run s step && isSend step) (suc (s .ledger .sent)) (s .ledger .sent)
+  sent-count step = counted step (isSend step) (λ u. u .ledger .sent) (λ h. owed run s step .parcels .earned h .0)
+
+  -- copied is one more exactly for an accepted copy
+  pub copied-count : (step : Step) → after run s step .ledger .copied ≡ cond (isAccepted run s step && isAgain step) (suc (s .ledger .copied)) (s .ledger .copied)
+  copied-count step = counted step (isAgain step) (λ u. u .ledger .copied) (λ h. owed run s step .parcels .earned h .1)
+
+  -- absorbed is one more exactly for an accepted delivery
+  pub absorbed-count : (step : Step) → after run s step .ledger .absorbed ≡ cond (isAccepted run s step && isDeliver step) (suc (s .ledger .absorbed)) (s .ledger .absorbed)
+  absorbed-count step = counted step (isDeliver step) (λ u. u .ledger .absorbed) (λ h. owed run s step .parcels .earned h .2)
+
+  -- lost is one more exactly for an accepted loss
+  pub lost-count : (step : Step) → after run s step .ledger .lost ≡ cond (isAccepted run s step && isLose step) (suc (s .ledger .lost)) (s .ledger .lost)
+  lost-count step = counted step (isLose step) (λ u. u .ledger .lost) (λ h. owed run s step .parcels .earned h .3)
+
+  -- no step in a sound state is refused with 1 or with 2
+  never-unsound : (step : Step) → StateSound run s → (refusalOf run s step ≡ 1 → ⊥) × (refusalOf run s step ≡ 2 → ⊥)
+  never-unsound step h = (
+    λ e. omega (arith, given-numbered 3 10 _ (owed run s step .tests) 0 (sym (sound-judged run s step h) ∙ e)),
+    λ e. omega (arith, given-numbered 3 10 _ (owed run s step .tests) 1 (sym (sound-judged run s step h) ∙ e)),
+  )
 
 -- ---- what every step keeps, a list of steps keeps
 pub ran-keeps : (run : Run) (P : State → Type 0) → ((s : State) (step : Step) → P s → P (after run s step)) → (s : State) (steps : List Step) → P s → P (ran run s steps)

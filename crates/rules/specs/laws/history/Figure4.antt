@@ -2,7 +2,7 @@
 -- has for each id afterwards is the right-hand side of the paper's Figure 4.
 -- Assumes nothing.
 use Prim.Native.Nat.{ℕ, suc, _%_, _≤_, _<_}
-use mathlib.Core.Bool.{Bool, true, false, _&&_, cond, false≢true}
+use mathlib.Core.Bool.{Bool, true, false, _&&_, cond}
 use mathlib.Core.Path.{_≡_, refl, sym, ap, _∙_}
 use mathlib.Core.List.{List}
 use lib.ListN.{length}
@@ -10,29 +10,20 @@ use lib.Dec.{eqb}
 use borrow.Author.Tests.{ltb-false, eqb-true, eqb-false, eq-eqb}
 use Rattle.rules.specs.declared.Run.{Run}
 use Rattle.rules.specs.declared.Step.{Step}
-use Rattle.rules.specs.declared.Step.the-variants.{Add, Remove, Query, Send, Merge, Deliver, Again, Lose}
+use Rattle.rules.specs.declared.Step.the-variants.{Add, Remove, Query, Merge, Deliver}
 use Rattle.rules.specs.meaning.Lengths.{M, listed, afterAdd, afterRemove, join}
 use Rattle.rules.specs.laws.Lengths.{odd-listed, even-listed, listed-odd, add-listed, add-unlisted, remove-listed, remove-unlisted}
 use Rattle.rules.specs.meaning.Table.{capacity, lengthOf, heldMerged, merged}
 use Rattle.rules.specs.meaning.Operations.{accepted, addTable, absorbTable, removeTable, mergeTable, crowded, raiseRefusal, removeRefusal, mergeRefusal}
 use Rattle.rules.specs.laws.table.Operations.{raise-length, add-of, absorb-of, remove-length, remove-of, merge-accepted, merge-length, merge-of}
 use Rattle.rules.specs.laws.run.Slots.{occupied-has}
-use Rattle.rules.specs.meaning.Runs.{State, tableAt, withTable, slotOf, wordsIn, valueIn, refusalOf, valueOf, moved, after}
-use Rattle.rules.specs.meaning.Histories.{parcelAt, lengthIn}
+use Rattle.rules.specs.meaning.Kinds.{slotOf, numbers}
+use Rattle.rules.specs.meaning.States.{State, tableAt, withTable, parcelAt}
+use Rattle.rules.specs.meaning.Steps.{effect}
+use Rattle.rules.specs.meaning.Runs.{refusalOf, valueOf, moved, after}
+use Rattle.rules.specs.meaning.Histories.{lengthIn}
 use Rattle.rules.specs.laws.run.Steps.{pass, accepted-moves, accepted-sound, accepted-own, add-own, remove-own, merge-own, deliver-own}
 use Rattle.rules.specs.laws.run.Tables.{site-sound, put-there, put-elsewhere}
-use Rattle.rules.specs.laws.run.Sound.{query-words, send-words, again-words, lose-words}
-
--- the steps that may change a length
-unfoldable pub changesLengths : Step → Bool
-changesLengths (Add k e) = true
-changesLengths (Remove k e) = true
-changesLengths (Query k e) = false
-changesLengths (Send f t e) = false
-changesLengths (Merge f t) = true
-changesLengths (Deliver i) = true
-changesLengths (Again i) = false
-changesLengths (Lose i) = false
 
 -- ---- the cases of Figure 4, at one id
 -- add: "s{e ↦ s(e) + 1} if even(s(e)), s if odd(s(e))"
@@ -81,8 +72,8 @@ module _ (run : Run) (s : State) (step : Step) (ok : refusalOf run s step ≡ 0)
 
 module _ (run : Run) (s : State) where
   -- ---- add
-  add-fits : (j x : ℕ) → refusalOf run s (Add j x) ≡ 0 → raiseRefusal (tableAt run (s .words) j) x (afterAdd (lengthIn run s j x)) ≡ accepted
-  unfolding raiseRefusal
+  pub add-fits : (j x : ℕ) → refusalOf run s (Add j x) ≡ 0 → raiseRefusal (tableAt run (s .words) j) x (afterAdd (lengthIn run s j x)) ≡ accepted
+  unfolding raiseRefusal effect
   add-fits j x ok =
       let a = pass 2 _ _ (accepted-own run s (Add j x) ok) in
       rw (pass 7 _ _ (a .1) .0)
@@ -90,7 +81,7 @@ module _ (run : Run) (s : State) where
   -- add(s, e): an accepted add gives the id the paper's length at its site, and leaves every other length
   pub figure4-add : (j x : ℕ) → refusalOf run s (Add j x) ≡ 0 → (k e : ℕ)
       → lengthIn run (after run s (Add j x)) k e ≡ cond (eqb j k && eqb x e) (afterAdd (lengthIn run s k e)) (lengthIn run s k e)
-  unfolding wordsIn
+  unfolding effect
   figure4-add j x ok =
       let t = tableAt run (s .words) j in
       let p = add-own run s j x ok in
@@ -99,12 +90,12 @@ module _ (run : Run) (s : State) where
 
   -- the value of an accepted add is the "length after"
   pub figure4-add-value : (j x : ℕ) → refusalOf run s (Add j x) ≡ 0 → valueOf run s (Add j x) ≡ lengthIn run (after run s (Add j x)) j x
-  unfolding valueOf valueIn
+  unfolding valueOf effect
   figure4-add-value j x ok = sym (figure4-add j x ok j x ∙ (rw (eq-eqb j j refl, eq-eqb x x refl)))
 
   -- ---- remove
-  remove-fits : (j x : ℕ) → refusalOf run s (Remove j x) ≡ 0 → removeRefusal M (tableAt run (s .words) j) x ≡ accepted
-  unfolding removeRefusal
+  pub remove-fits : (j x : ℕ) → refusalOf run s (Remove j x) ≡ 0 → removeRefusal M (tableAt run (s .words) j) x ≡ accepted
+  unfolding removeRefusal effect
   remove-fits j x ok =
       let a = pass 2 _ _ (accepted-own run s (Remove j x) ok) in
       rw (pass 6 _ _ (a .1) .0)
@@ -112,7 +103,7 @@ module _ (run : Run) (s : State) where
   -- remove(s, e): an accepted remove gives the id the paper's length at its site, and leaves every other length
   pub figure4-remove : (j x : ℕ) → refusalOf run s (Remove j x) ≡ 0 → (k e : ℕ)
       → lengthIn run (after run s (Remove j x)) k e ≡ cond (eqb j k && eqb x e) (afterRemove (lengthIn run s k e)) (lengthIn run s k e)
-  unfolding wordsIn
+  unfolding effect
   figure4-remove j x ok =
       let t = tableAt run (s .words) j in
       let p = remove-own run s j x ok in
@@ -121,24 +112,25 @@ module _ (run : Run) (s : State) where
 
   -- the value of an accepted remove is the "length after"
   pub figure4-remove-value : (j x : ℕ) → refusalOf run s (Remove j x) ≡ 0 → valueOf run s (Remove j x) ≡ lengthIn run (after run s (Remove j x)) j x
-  unfolding valueOf valueIn
+  unfolding valueOf effect
   figure4-remove-value j x ok = sym (figure4-remove j x ok j x ∙ (rw (eq-eqb j j refl, eq-eqb x x refl)))
 
   -- ---- merge
   merge-fits : (f t : ℕ) → refusalOf run s (Merge f t) ≡ 0 → crowded (tableAt run (s .words) t) (heldMerged (tableAt run (s .words) t) (tableAt run (s .words) f)) ≡ false
+  unfolding effect
   merge-fits f t ok =
       let a = pass 2 _ _ (accepted-own run s (Merge f t) ok) in
       let b = pass 3 _ _ (a .1) in
       pass 7 _ _ (b .1) .0
 
-  merge-taken : (f t : ℕ) → refusalOf run s (Merge f t) ≡ 0 → mergeRefusal (tableAt run (s .words) t) (tableAt run (s .words) f) ≡ accepted
+  pub merge-taken : (f t : ℕ) → refusalOf run s (Merge f t) ≡ 0 → mergeRefusal (tableAt run (s .words) t) (tableAt run (s .words) f) ≡ accepted
   unfolding mergeRefusal
   merge-taken f t ok = rw (merge-fits f t ok)
 
   -- (s ⊔ s')(e) = max(s(e), s'(e)): an accepted merge gives every id the larger length at the second site, and leaves every other site
   pub figure4-merge : (f t : ℕ) → refusalOf run s (Merge f t) ≡ 0 → (k e : ℕ)
       → lengthIn run (after run s (Merge f t)) k e ≡ cond (eqb t k) (join (lengthIn run s k e) (lengthIn run s f e)) (lengthIn run s k e)
-  unfolding wordsIn
+  unfolding effect
   figure4-merge f t ok =
       let into = tableAt run (s .words) t in
       let from = tableAt run (s .words) f in
@@ -152,7 +144,7 @@ module _ (run : Run) (s : State) where
   pub merge-table : (f t : ℕ) → refusalOf run s (Merge f t) ≡ 0
       → (tableAt run (after run s (Merge f t) .words) t ≡ merged (tableAt run (s .words) t) (tableAt run (s .words) f))
       × (heldMerged (tableAt run (s .words) t) (tableAt run (s .words) f) ≤ capacity (tableAt run (s .words) t))
-  unfolding wordsIn
+  unfolding effect
   merge-table f t ok =
       let into = tableAt run (s .words) t in
       let from = tableAt run (s .words) f in
@@ -166,9 +158,9 @@ module _ (run : Run) (s : State) where
       )
 
   -- ---- deliver
-  deliver-fits : (i : ℕ) → refusalOf run s (Deliver i) ≡ 0
+  pub deliver-fits : (i : ℕ) → refusalOf run s (Deliver i) ≡ 0
       → raiseRefusal (tableAt run (s .words) (parcelAt s i .site)) (parcelAt s i .id) (join (lengthIn run s (parcelAt s i .site) (parcelAt s i .id)) (parcelAt s i .length)) ≡ accepted
-  unfolding raiseRefusal slotOf
+  unfolding raiseRefusal slotOf numbers effect
   deliver-fits i ok =
       let a = pass 4 _ _ (accepted-own run s (Deliver i) ok) in
       rw (pass 7 _ _ (a .1) .0)
@@ -178,7 +170,7 @@ module _ (run : Run) (s : State) where
   pub figure4-deliver : (i : ℕ) → refusalOf run s (Deliver i) ≡ 0 → (k e : ℕ)
       → lengthIn run (after run s (Deliver i)) k e
       ≡ cond (eqb (parcelAt s i .site) k && eqb (parcelAt s i .id) e) (join (lengthIn run s k e) (parcelAt s i .length)) (lengthIn run s k e)
-  unfolding wordsIn slotOf
+  unfolding effect slotOf numbers
   figure4-deliver i ok =
       let q = parcelAt s i in
       let t = tableAt run (s .words) (q .site) in
@@ -190,27 +182,15 @@ module _ (run : Run) (s : State) where
   -- the value of an accepted delivery is the "length after"
   pub figure4-deliver-value : (i : ℕ) → refusalOf run s (Deliver i) ≡ 0
       → valueOf run s (Deliver i) ≡ lengthIn run (after run s (Deliver i)) (parcelAt s i .site) (parcelAt s i .id)
-  unfolding valueOf valueIn slotOf
+  unfolding valueOf effect slotOf numbers
   figure4-deliver-value i ok =
       let q = parcelAt s i in
       sym (figure4-deliver i ok (q .site) (q .id) ∙ (rw (eq-eqb (q .site) (q .site) refl, eq-eqb (q .id) (q .id) refl)))
 
-  -- ---- membership, and the steps on parcels that deliver nothing
+  -- ---- membership
   -- in(s, e) = odd(s(e)): the value of a query is the length, and it is listed "exactly when its length is odd"
   pub figure4-query : (k e : ℕ)
       → (valueOf run s (Query k e) ≡ lengthIn run s k e) × (listed (valueOf run s (Query k e)) ≡ true → lengthIn run s k e % 2 ≡ 1)
       × (lengthIn run s k e % 2 ≡ 1 → listed (valueOf run s (Query k e)) ≡ true)
-  unfolding valueOf valueIn
+  unfolding valueOf effect
   figure4-query k e = (refl, listed-odd (lengthIn run s k e), odd-listed (lengthIn run s k e))
-
-  -- a query, a send, a copy and a loss change no length anywhere, accepted or refused
-  pub figure4-none : (step : Step) → changesLengths step ≡ false → (k e : ℕ) → lengthIn run (after run s step) k e ≡ lengthIn run s k e
-  unfolding changesLengths
-  figure4-none (Add j x) h k e = absurd (false≢true (sym h))
-  figure4-none (Remove j x) h k e = absurd (false≢true (sym h))
-  figure4-none (Query j x) h k e = rw (query-words run s j x)
-  figure4-none (Send f t x) h k e = rw (send-words run s f t x)
-  figure4-none (Merge f t) h k e = absurd (false≢true (sym h))
-  figure4-none (Deliver i) h k e = absurd (false≢true (sym h))
-  figure4-none (Again i) h k e = rw (again-words run s i)
-  figure4-none (Lose i) h k e = rw (lose-words run s i)

@@ -7,73 +7,36 @@ use mathlib.Core.Path.{_≡_, refl, sym}
 use mathlib.Core.List.{List, [], _∷_, _++_, append-assoc, append-nil}
 use lib.ListN.{length}
 use lib.Dec.{eqb}
-use borrow.Author.Tests.{lt-leb, eqb-true}
+use borrow.Author.Tests.{eqb-true}
 use Rattle.rules.specs.declared.Run.{Run}
 use Rattle.rules.specs.declared.Step.{Step}
-use Rattle.rules.specs.declared.Step.the-variants.{Add, Remove, Query, Send, Merge, Deliver, Again, Lose}
-use Rattle.rules.specs.meaning.Lengths.{M, afterRemove}
-use Rattle.rules.specs.laws.Lengths.{remove-none}
+use Rattle.rules.specs.meaning.Lengths.{M}
 use Rattle.rules.specs.meaning.Table.{lengthOf}
-use Rattle.rules.specs.meaning.Runs.{State, tableAt, slotOf, sightOf, lengthAdded, valueIn, valueOf, refusalOf, after, freshRefusal, afterFresh, StateSound}
-use Rattle.rules.specs.laws.run.Steps.{merge-own, deliver-own}
+use Rattle.rules.specs.meaning.States.{State, tableAt, sightOf, StateSound}
+use Rattle.rules.specs.meaning.Steps.{siteIn, idsOf}
+use Rattle.rules.specs.meaning.Runs.{refusalOf, after, freshRefusal, afterFresh, effectOf}
+use Rattle.rules.specs.laws.run.Rows.{owed}
 use Rattle.rules.specs.laws.run.Sound.{fresh-sound, fresh-unused, after-sound}
-use Rattle.rules.specs.meaning.Histories.{ran, siteIn, pairOf, parcelAt, given, absorbedIn, largest, idsOf, offer, offeredIn, offered, among}
+use Rattle.rules.specs.meaning.Histories.{ran, absorbedIn, largest, offeredIn, offered, among}
 use Rattle.rules.specs.laws.run.Tables.{site-sound}
-use Rattle.rules.specs.laws.history.Pairs.{largest-pair, largest-entries}
 use Rattle.rules.specs.laws.history.Counting.{fresh-ran-sound}
 use Rattle.rules.specs.laws.history.Absorbing.{step-absorbs}
-use Rattle.rules.specs.laws.history.Climbing.{among-same}
 use Rattle.rules.specs.laws.history.Distinct.{AllAmong, among-left, among-right, among-either}
 use Rattle.rules.specs.laws.history.Held.{ids-unused, held-among, among-held}
 
--- a pair that is given has its id and a length
-pair-given : (e n x : ℕ) → 1 ≤ largest (pairOf e n) x → (e ≡ x) × (1 ≤ n)
-pair-given e n x h = go (eqb e x) refl (rw (largest-pair e n x) at h)
-  where
-    go : (b : Bool) → eqb e x ≡ b → 1 ≤ cond b n 0 → (e ≡ x) × (1 ≤ n)
-    go true q p = (eqb-true e x q, p)
-    go false q p = absurd (omega arith)
-
--- a remove gives a length only where there was one
-removed-held : (n : ℕ) → 1 ≤ afterRemove n → 1 ≤ n
-removed-held zero h = absurd (omega (arith, remove-none))
-removed-held (suc n) h = omega arith
-
 -- ---- one step
 module _ (run : Run) (s : State) (ok : StateSound run s) where
-  -- an id of what an accepted step gives is offered by the step, or held already: "no entry is made" by a remove
-  given-offered : (step : Step) → refusalOf run s step ≡ 0 → siteIn run (sightOf run s step) step < run .sites → (x : ℕ) → 1 ≤ largest (given run s step) x
-      → among x (offer run s step ++ idsOf (tableAt run (s .words) (siteIn run (sightOf run s step) step))) ≡ true
-  unfolding siteIn given offer slotOf valueOf valueIn largest
-  given-offered (Add k e) a h x p = rw (pair-given e (lengthAdded run (s .words) k e) x p .0) (among-same x (idsOf (tableAt run (s .words) k)))
-  given-offered (Remove k e) a h x p =
-      let t = tableAt run (s .words) k in
-      let g = pair-given e (afterRemove (lengthOf t e)) x p in
-      held-among M t (site-sound run s ok k h) x (rw (g .0) at (removed-held (lengthOf t e) (g .1)))
-  given-offered (Query k e) a h x p = absurd (omega arith)
-  given-offered (Send f t e) a h x p = absurd (omega arith)
-  given-offered (Merge f t) a h x p =
-      let from = tableAt run (s .words) f in
-      let inside = merge-own run s f t a .0 in
-      let good = site-sound run s ok f inside in
-      rw (lt-leb (run .sites) f inside) (among-left (idsOf from) (idsOf (tableAt run (s .words) t)) x (held-among M from good x (rw (largest-entries M from good x) at p)))
-  given-offered (Deliver i) a h x p =
-      let own = deliver-own run s i a in
-      rw (lt-leb (length (s .slots)) i (own .0), own .1, pair-given (parcelAt s i .id) (parcelAt s i .length) x p .0) (among-same x (idsOf (tableAt run (s .words) (parcelAt s i .site))))
-  given-offered (Again i) a h x p = absurd (omega arith)
-  given-offered (Lose i) a h x p = absurd (omega arith)
-
-  -- so what a site absorbs by a step was held there before, or is offered to it by the step
-  absorbed-offered : (step : Step) (k : ℕ) → k < run .sites → (x : ℕ) → 1 ≤ largest (absorbedIn run s k step) x
+  -- what a site absorbs by a step was held there before, or is offered to it by the step
+  absorbed-offered : (step : Step) (k x : ℕ) → 1 ≤ largest (absorbedIn run s k step) x
       → among x (offeredIn run s k step ++ idsOf (tableAt run (s .words) k)) ≡ true
   unfolding absorbedIn offeredIn largest
-  absorbed-offered step k h x = go (eqb (refusalOf run s step) 0) refl (eqb (siteIn run (sightOf run s step) step) k) refl
+  absorbed-offered step k x = go (eqb (refusalOf run s step) 0) refl (eqb (siteIn run (sightOf run s step) step) k) refl
     where
-      go : (a : Bool) → eqb (refusalOf run s step) 0 ≡ a → (b : Bool) → eqb (siteIn run (sightOf run s step) step) k ≡ b → 1 ≤ largest (cond (a && b) (given run s step) []) x
-          → among x (cond b (offer run s step) [] ++ idsOf (tableAt run (s .words) k)) ≡ true
+      go : (a : Bool) → eqb (refusalOf run s step) 0 ≡ a → (b : Bool) → eqb (siteIn run (sightOf run s step) step) k ≡ b → 1 ≤ largest (cond (a && b) (effectOf run s step .gain .given) []) x
+          → among x (cond b (effectOf run s step .gain .offer) [] ++ idsOf (tableAt run (s .words) k)) ≡ true
       go true q true r p =
           let here = eqb-true (siteIn run (sightOf run s step) step) k r in
-          rw here at (given-offered step (eqb-true _ _ q) (rw here h) x p)
+          rw here at (owed run s step .tables .gains (eqb-true _ _ q) .offered x p)
       go true q false r p = absurd (omega arith)
       go false q b r p = absurd (omega arith)
 
@@ -85,7 +48,7 @@ module _ (run : Run) (s : State) (ok : StateSound run s) where
       some = among-held M _ (site-sound run (after run s step) (after-sound run s step ok) k h) x p
 
       go : (n : ℕ) → lengthOf (tableAt run (s .words) k) x ≡ n → among x (offeredIn run s k step ++ idsOf (tableAt run (s .words) k)) ≡ true
-      go zero q = absorbed-offered step k h x (omega (arith, some, step-absorbs run s step k x))
+      go zero q = absorbed-offered step k x (omega (arith, some, step-absorbs run s step k x))
       go (suc n) q = among-right (offeredIn run s k step) (idsOf (tableAt run (s .words) k)) x (held-among M _ (site-sound run s ok k h) x (omega arith))
 
 -- ---- a list of steps

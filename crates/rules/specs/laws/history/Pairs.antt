@@ -14,7 +14,8 @@ use Rattle.rules.specs.meaning.Table.{sound, lengthOf}
 use Rattle.rules.specs.laws.table.Order.{Side, Side.below, Side.same, Side.above, side}
 use Rattle.rules.specs.laws.table.View.{Unused.none, Unused.pair, Sound, Sound.rest, Sound.used, seen, parts}
 use Rattle.rules.specs.laws.table.Law.{of-same, of-other, of-unused, of-below}
-use Rattle.rules.specs.meaning.Histories.{Pair, pairOf, entriesOf, largest, occurs, within, samePairs}
+use Rattle.rules.specs.meaning.Steps.{Pair, pairOf, entriesOf}
+use Rattle.rules.specs.meaning.Histories.{largest, occurs, within, samePairs}
 
 -- ---- the largest length, a pair at a time
 -- a pair of the id in front

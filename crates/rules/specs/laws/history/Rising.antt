@@ -19,7 +19,9 @@ use Rattle.rules.specs.laws.table.Order.{Side, Side.below, Side.same, Si
 use Rattle.rules.specs.laws.table.View.{Unused.none, Unused.pair, Sound, Sound.rest, Sound.used, seen}
 use Rattle.rules.specs.laws.table.Law.{of-same, of-other, of-unused}
 use Rattle.rules.specs.laws.table.Merge.{merged-of}
-use Rattle.rules.specs.meaning.Runs.{State, tableAt, valueIn, refusalOf, valueOf, after}
+use Rattle.rules.specs.meaning.States.{State, tableAt}
+use Rattle.rules.specs.meaning.Steps.{effect}
+use Rattle.rules.specs.meaning.Runs.{refusalOf, valueOf, after}
 use Rattle.rules.specs.meaning.Histories.{among, lengthIn}
 use Rattle.rules.specs.laws.history.Climbing.{Climbing, Climbing.end, Climbing.next, climbing-lower, among-same, among-other, among-below, climbing-one}
 use Rattle.rules.specs.laws.run.Steps.{accepted-sound, merge-own}
@@ -111,7 +113,7 @@ module _ (most : ℕ) (t s : List ℕ) (ok : sound most t ≡ true) (other : sou
 module _ (run : Run) (s : State) (f t : ℕ) (ok : refusalOf run s (Merge f t) ≡ 0) where
   -- "number of ids whose length rose": the value is counted over the second site's table after the step against its table before
   pub merge-value : valueOf run s (Merge f t) ≡ rises (tableAt run (s .words) t) (tableAt run (after run s (Merge f t) .words) t)
-  unfolding valueOf valueIn
+  unfolding valueOf effect
   merge-value =
       let p = merge-own run s f t ok in
       let m = merge-table run s f t ok in

@@ -16,53 +16,62 @@ use Rattle.rules.specs.meaning.Number.{upTo, digits}
 use Rattle.rules.specs.laws.line.Numbers.{by-test, digits-length}
 use Rattle.rules.specs.meaning.Lines.{lead, field, textOf, namesStep, numbersOf}
 use Rattle.rules.specs.laws.line.Lines.{written-read, read-written, step-says}
+use Rattle.rules.specs.meaning.Kinds.{numbers}
 use Rattle.rules.specs.meaning.StepLines.{steps, stepFor, stepIn, lineOf, stepOf, Fits}
 
 -- ---- the eight forms, as document 01 lists them
 module _ (n m i : ℕ) where
   pub add-line : lineOf (Add n i) ≡ ascii "step=add node=" ++ (digits n ++ (ascii " id=" ++ digits i))
-  unfolding lineOf textOf field lead
+  unfolding lineOf numbers textOf field lead
   add-line = refl
 
   pub remove-line : lineOf (Remove n i) ≡ ascii "step=remove node=" ++ (digits n ++ (ascii " id=" ++ digits i))
-  unfolding lineOf textOf field lead
+  unfolding lineOf numbers textOf field lead
   remove-line = refl
 
   pub query-line : lineOf (Query n i) ≡ ascii "step=query node=" ++ (digits n ++ (ascii " id=" ++ digits i))
-  unfolding lineOf textOf field lead
+  unfolding lineOf numbers textOf field lead
   query-line = refl
 
   pub send-line : lineOf (Send n m i) ≡ ascii "step=send from=" ++ (digits n ++ (ascii " to=" ++ (digits m ++ (ascii " id=" ++ digits i))))
-  unfolding lineOf textOf field lead
+  unfolding lineOf numbers textOf field lead
   send-line = refl
 
   pub merge-line : lineOf (Merge n m) ≡ ascii "step=merge from=" ++ (digits n ++ (ascii " to=" ++ digits m))
-  unfolding lineOf textOf field lead
+  unfolding lineOf numbers textOf field lead
   merge-line = simp append-nil
 
   pub deliver-line : lineOf (Deliver n) ≡ ascii "step=deliver slot=" ++ digits n
-  unfolding lineOf textOf field lead
+  unfolding lineOf numbers textOf field lead
   deliver-line = simp append-nil
 
   pub again-line : lineOf (Again n) ≡ ascii "step=again slot=" ++ digits n
-  unfolding lineOf textOf field lead
+  unfolding lineOf numbers textOf field lead
   again-line = simp append-nil
 
   pub lose-line : lineOf (Lose n) ≡ ascii "step=lose slot=" ++ digits n
-  unfolding lineOf textOf field lead
+  unfolding lineOf numbers textOf field lead
   lose-line = simp append-nil
+
+-- the four numbers of a step name it
+pub numbers-name : (step : Step) → (namesStep (numbers step .kind) (numbers step .second) (numbers step .id) ≡ true)
+    × (getD (steps (numbers step .first) (numbers step .second) (numbers step .id)) (numbers step .kind) NoStep ≡ Is step)
+unfolding numbers namesStep
+numbers-name (Add k e) = (refl, refl)
+numbers-name (Remove k e) = (refl, refl)
+numbers-name (Query k e) = (refl, refl)
+numbers-name (Send f t e) = (refl, refl)
+numbers-name (Merge f t) = (refl, refl)
+numbers-name (Deliver i) = (refl, refl)
+numbers-name (Again i) = (refl, refl)
+numbers-name (Lose i) = (refl, refl)
 
 -- "A step line written is read back as the same step"
 pub written-step : (step : Step) → Fits step → stepOf (lineOf step) ≡ Is step
-unfolding lineOf stepOf stepIn stepFor namesStep
-written-step (Add k e) h = rw (written-read 1 k 0 e refl (h .0) (omega arith) (h .1))
-written-step (Remove k e) h = rw (written-read 2 k 0 e refl (h .0) (omega arith) (h .1))
-written-step (Query k e) h = rw (written-read 3 k 0 e refl (h .0) (omega arith) (h .1))
-written-step (Send f t e) h = rw (written-read 4 f t e refl (h .0) (h .1) (h .2))
-written-step (Merge f t) h = rw (written-read 5 f t 0 refl (h .0) (h .1) (omega arith))
-written-step (Deliver i) h = rw (written-read 6 i 0 0 refl h (omega arith) (omega arith))
-written-step (Again i) h = rw (written-read 7 i 0 0 refl h (omega arith) (omega arith))
-written-step (Lose i) h = rw (written-read 8 i 0 0 refl h (omega arith) (omega arith))
+unfolding lineOf stepOf stepIn stepFor
+written-step step h =
+    let n = numbers-name step in
+    rw (written-read _ (numbers step .first) _ _ (n .0) (h .0) (h .1) (h .2), n .0) (n .1)
 
 -- "no two steps have one line"
 pub one-step : (a b : Step) → Fits a → Fits b → lineOf a ≡ lineOf b → a ≡ b
@@ -80,39 +89,39 @@ module _ (first second e : ℕ) where
   none-is kind step h = absurd (let z : _≡_ {A = ℕ} 0 1 = cc in omega arith)
 
   named : (kind : ℕ) (step : Step) → namesStep kind second e ≡ true → getD (steps first second e) kind NoStep ≡ Is step → Same kind step
-  unfolding lineOf
+  unfolding lineOf numbers
   named zero step y h = none-is zero step h
   named (suc zero) step y h =
       let z : second ≡ 0 = step-says 1 second e y .2 refl in
       let p : Add first e ≡ step = cc in
-      rw (← p, z) (refl, λ a b c. (a, c))
+      rw (← p, z) (refl, λ a b c. (a, b, c))
   named (suc (suc zero)) step y h =
       let z : second ≡ 0 = step-says 2 second e y .2 refl in
       let p : Remove first e ≡ step = cc in
-      rw (← p, z) (refl, λ a b c. (a, c))
+      rw (← p, z) (refl, λ a b c. (a, b, c))
   named (suc (suc (suc zero))) step y h =
       let z : second ≡ 0 = step-says 3 second e y .2 refl in
       let p : Query first e ≡ step = cc in
-      rw (← p, z) (refl, λ a b c. (a, c))
+      rw (← p, z) (refl, λ a b c. (a, b, c))
   named (suc (suc (suc (suc zero)))) step y h =
       let p : Send first second e ≡ step = cc in
       rw (← p) (refl, λ a b c. (a, b, c))
   named (suc (suc (suc (suc (suc zero))))) step y h =
       let z : e ≡ 0 = step-says 5 second e y .3 refl in
       let p : Merge first second ≡ step = cc in
-      rw (← p, z) (refl, λ a b c. (a, b))
+      rw (← p, z) (refl, λ a b c. (a, b, c))
   named (suc (suc (suc (suc (suc (suc zero)))))) step y h =
       let s = step-says 6 second e y in
       let p : Deliver first ≡ step = cc in
-      rw (← p, s .2 refl, s .3 refl) (refl, λ a b c. a)
+      rw (← p, s .2 refl, s .3 refl) (refl, λ a b c. (a, b, c))
   named (suc (suc (suc (suc (suc (suc (suc zero))))))) step y h =
       let s = step-says 7 second e y in
       let p : Again first ≡ step = cc in
-      rw (← p, s .2 refl, s .3 refl) (refl, λ a b c. a)
+      rw (← p, s .2 refl, s .3 refl) (refl, λ a b c. (a, b, c))
   named (suc (suc (suc (suc (suc (suc (suc (suc zero)))))))) step y h =
       let s = step-says 8 second e y in
       let p : Lose first ≡ step = cc in
-      rw (← p, s .2 refl, s .3 refl) (refl, λ a b c. a)
+      rw (← p, s .2 refl, s .3 refl) (refl, λ a b c. (a, b, c))
   named (suc (suc (suc (suc (suc (suc (suc (suc (suc k))))))))) step y h = none-is (suc (suc (suc (suc (suc (suc (suc (suc (suc k))))))))) step h
 
   pub named-line : (kind : ℕ) (step : Step) → stepFor kind first second e ≡ Is step → Same kind step
@@ -157,14 +166,9 @@ module _ (first second e : ℕ) where
 -- no line is longer
 pub at-most-83 : (step : Step) → length (lineOf step) ≤ 83
 unfolding lineOf
-at-most-83 (Add k e) = text-within k 0 e 1 (omega arith) (omega arith)
-at-most-83 (Remove k e) = text-within k 0 e 2 (omega arith) (omega arith)
-at-most-83 (Query k e) = text-within k 0 e 3 (omega arith) (omega arith)
-at-most-83 (Send f t e) = text-within f t e 4 (omega arith) (omega arith)
-at-most-83 (Merge f t) = text-within f t 0 5 (omega arith) (omega arith)
-at-most-83 (Deliver i) = text-within i 0 0 6 (omega arith) (omega arith)
-at-most-83 (Again i) = text-within i 0 0 7 (omega arith) (omega arith)
-at-most-83 (Lose i) = text-within i 0 0 8 (omega arith) (omega arith)
+at-most-83 step =
+    let s = step-says (numbers step .kind) (numbers step .second) (numbers step .id) (numbers-name step .0) in
+    text-within (numbers step .first) (numbers step .second) (numbers step .id) (numbers step .kind) (s .0) (s .1)
 
 -- so a text of more than 83 bytes is no step line
 pub read-at-most-83 : (xs : List ℕ) (step : Step) → stepOf xs ≡ Is step → length xs ≤ 83
@@ -172,5 +176,5 @@ read-at-most-83 xs step h = rw (← read-step xs step h .0) (at-most-83 step)
 
 -- and one line has as many: the largest numbers in a send
 pub longest-is-83 : length (lineOf (Send 18446744073709551615 18446744073709551615 18446744073709551615)) ≡ 83
-unfolding lineOf textOf lead field digits upTo
+unfolding lineOf numbers textOf lead field digits upTo
 longest-is-83 = refl

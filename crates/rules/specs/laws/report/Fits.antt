@@ -3,20 +3,25 @@
 use Prim.Native.Nat.{ℕ, zero, suc, _+_, _*_, _≤_, _<_}
 use native.Mathlib.Omega.{arith}
 use mathlib.Core.Path.{_≡_, refl}
+use mathlib.Core.Path.{_≡_, refl}
+use mathlib.Core.Bool.{Bool, true, false, cond}
 use mathlib.Core.List.{List, [], _∷_, _++_}
 use lib.ListN.{length, length-append}
 use lib.Dec.{eqb}
-use borrow.Author.Tests.{lt-ltb, le-ltb, eq-eqb, ne-eqb}
+use borrow.Author.Tests.{lt-ltb, le-ltb, eqb-true, eq-eqb, ne-eqb}
 use Rattle.rules.specs.declared.Step.{Step}
-use Rattle.rules.specs.declared.Step.the-variants.{Add, Remove, Query, Send, Merge, Deliver, Again, Lose}
 use Rattle.rules.specs.declared.Named.{Named}
 use Rattle.rules.specs.declared.Named.the-variants.{Is, NoStep}
-use Rattle.rules.specs.meaning.Runs.{State, firstGiven, refusalOf, valueOf}
+use Rattle.rules.specs.meaning.States.{State}
+use Rattle.rules.specs.meaning.Refusals.{firstGiven}
+use Rattle.rules.specs.meaning.Runs.{refusalOf, valueOf}
+use Rattle.rules.specs.meaning.Kinds.{numbers, isQuery}
 use Rattle.rules.specs.laws.line.Numbers.{below, by-test}
+use Rattle.rules.specs.meaning.Lines.{lead, field, textOf}
 use Rattle.rules.specs.meaning.StepLines.{lineOf, stepOf}
-use Rattle.rules.specs.laws.line.Steps.{query-line, read-step}
+use Rattle.rules.specs.laws.line.Steps.{read-step}
 use Rattle.rules.specs.meaning.Calls.{namedAfter}
-use Rattle.rules.specs.meaning.Reports.{reportRun, reportStart, lineEnd, refusedLine, endLines, acceptedLine, lineBy, saidOf, lastPiece, reportFrom, reportOf, inputLimit, reportRoom, reportRefusal, reportFor}
+use Rattle.rules.specs.meaning.Reports.{reportRun, reportStart, lineEnd, refusedLine, endLines, acceptedLine, lineBy, saidOf, lastPiece, reportFrom, reportOf, inputLimit, reportRoom, reportRefusal, reportFor, queryLine}
 use Rattle.rules.specs.laws.report.Parts.{refusal-within, refused-within, query-within, end-within}
 
 -- ---- how a report goes on, by the next byte of the input
@@ -49,20 +54,20 @@ report-starts input = refl
 
 -- ---- a report fits its room: no byte of the input earns more than 22 bytes
 -- the line of a query has at least 20 bytes
-query-long : (k e : ℕ) → 20 ≤ length (lineOf (Query k e))
-query-long k e = rw (query-line k 0 e) (simp (length-append) (omega arith))
+query-long : (first second e : ℕ) → 20 ≤ length (textOf 3 first second e)
+unfolding textOf lead field
+query-long first second e = simp (length-append) (omega arith)
 
 -- an accepted step says nothing, or it is a query, whose own line is long enough
 accepted-within : (n : ℕ) (step : Step) (m : ℕ) → n < 100000 → length (acceptedLine n step m) ≤ 22 * length (lineOf step)
-unfolding acceptedLine
-accepted-within n (Add k e) m p = omega arith
-accepted-within n (Remove k e) m p = omega arith
-accepted-within n (Query k e) m p = let a = query-within n k e m p in omega (arith, query-long k e)
-accepted-within n (Send f t e) m p = omega arith
-accepted-within n (Merge f t) m p = omega arith
-accepted-within n (Deliver i) m p = omega arith
-accepted-within n (Again i) m p = omega arith
-accepted-within n (Lose i) m p = omega arith
+unfolding acceptedLine lineOf
+accepted-within n step m p = go (isQuery step) refl
+  where
+    go : (b : Bool) → isQuery step ≡ b → length (cond b (queryLine n (numbers step .first) (numbers step .id) m) []) ≤ 22 * length (lineOf step)
+    go true q =
+        let a = query-within n (numbers step .first) (numbers step .id) m p in
+        rw (eqb-true (numbers step .kind) 3 q) (omega (arith, query-long (numbers step .first) (numbers step .second) (numbers step .id)))
+    go false q = omega arith
 
 line-by-within : (r n : ℕ) (step : Step) (m : ℕ) → n < 100000 → r ≤ 10 → length (lineBy r n step m) ≤ 22 * (length (lineOf step) + 1)
 line-by-within zero n step m p q = let a = accepted-within n step m p in omega arith

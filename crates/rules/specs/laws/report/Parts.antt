@@ -3,18 +3,21 @@
 use Prim.Native.Nat.{ℕ, zero, suc, _+_, _*_, _/_, _^_, _≤_, _<_}
 use native.Mathlib.Omega.{arith}
 use mathlib.Core.Bool.{Bool, true, false, cond}
+use mathlib.Core.Path.{_≡_, refl}
 use mathlib.Core.List.{List, [], _∷_}
 use lib.ListN.{length, drop, length-append, length-take}
 use Rattle.rules.specs.declared.Run.{Run}
 use Rattle.rules.specs.declared.Ledger.{Ledger}
-use Rattle.rules.specs.declared.Sight.{Sight}
 use Rattle.rules.specs.declared.Step.{Step}
-use Rattle.rules.specs.declared.Step.the-variants.{Add, Remove, Query, Send, Merge, Deliver, Again, Lose}
 use Rattle.rules.specs.meaning.Lengths.{listed}
 use Rattle.rules.specs.meaning.Table.{held}
 use Rattle.rules.specs.meaning.Parcels.{waiting}
-use Rattle.rules.specs.meaning.Runs.{State, width, tableAt, sightOf, Test, _when_, firstGiven, stepTests, refusalIn, refusalOf}
+use Rattle.rules.specs.meaning.Refusals.{Test, _when_, firstGiven}
+use Rattle.rules.specs.meaning.States.{State, width, tableAt}
+use Rattle.rules.specs.meaning.Runs.{effectOf, refusalIn, refusalOf}
 use Rattle.rules.specs.meaning.Number.{digits}
+use Rattle.rules.specs.laws.run.Owed.{given-numbered}
+use Rattle.rules.specs.laws.run.Rows.{owed}
 use Rattle.rules.specs.laws.line.Numbers.{below, one-digit, more-digits, digits-length}
 use Rattle.rules.specs.meaning.Reports.{reportRun, refusedLine, queryLine, ledgerLines, siteLine, siteLines, endLines}
 
@@ -33,26 +36,17 @@ unfolding firstGiven
 given-within most n true ts p q = p
 given-within most n false ts p q = q
 
-none-within : (most : ℕ) → firstGiven [] ≤ most
-unfolding firstGiven
-none-within most = omega arith
-
-own-within : (run : Run) (ws : List ℕ) (si : Sight) (step : Step) → firstGiven (stepTests run ws si step) ≤ 10
-own-within run ws si (Add k e) = given-within 10 3 _ _ (omega arith) (given-within 10 8 _ _ (omega arith) (none-within 10))
-own-within run ws si (Remove k e) = given-within 10 3 _ _ (omega arith) (given-within 10 7 _ _ (omega arith) (none-within 10))
-own-within run ws si (Query k e) = given-within 10 3 _ _ (omega arith) (none-within 10)
-own-within run ws si (Send f t e) =
-    given-within 10 3 _ _ (omega arith) (given-within 10 4 _ _ (omega arith) (given-within 10 6 _ _ (omega arith)
-    (given-within 10 9 _ _ (omega arith) (given-within 10 10 _ _ (omega arith) (none-within 10)))))
-own-within run ws si (Merge f t) = given-within 10 3 _ _ (omega arith) (given-within 10 4 _ _ (omega arith) (given-within 10 8 _ _ (omega arith) (none-within 10)))
-own-within run ws si (Deliver i) = given-within 10 5 _ _ (omega arith) (given-within 10 8 _ _ (omega arith) (given-within 10 10 _ _ (omega arith) (none-within 10)))
-own-within run ws si (Again i) = given-within 10 5 _ _ (omega arith) (given-within 10 9 _ _ (omega arith) (given-within 10 10 _ _ (omega arith) (none-within 10)))
-own-within run ws si (Lose i) = given-within 10 5 _ _ (omega arith) (given-within 10 10 _ _ (omega arith) (none-within 10))
+own-within : (run : Run) (s : State) (step : Step) → firstGiven (effectOf run s step .tests) ≤ 10
+own-within run s step = go (firstGiven (effectOf run s step .tests)) refl
+  where
+    go : (r : ℕ) → firstGiven (effectOf run s step .tests) ≡ r → r ≤ 10
+    go zero e = omega arith
+    go (suc r) e = given-numbered 3 10 _ (owed run s step .tests) r e .1
 
 pub refusal-within : (run : Run) (s : State) (step : Step) → refusalOf run s step ≤ 10
 unfolding refusalOf refusalIn
 refusal-within run s step =
-    given-within 10 1 _ _ (omega arith) (given-within 10 2 _ _ (omega arith) (own-within run (s .words) (sightOf run s step) step))
+    given-within 10 1 _ _ (omega arith) (given-within 10 2 _ _ (omega arith) (own-within run s step))
 
 -- ---- the lines
 -- the line of a refusal: 15 bytes around a line number of at most 5 digits and a refusal number of at most 2

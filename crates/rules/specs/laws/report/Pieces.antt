@@ -7,7 +7,7 @@ use mathlib.Core.List.{List, [], _∷_, _++_, append-assoc, append-nil}
 use lib.Dec.{eqb}
 use borrow.Author.Tests.{eqb-false, not-true}
 use Rattle.rules.specs.laws.table.View.{parts}
-use Rattle.rules.specs.meaning.Runs.{State}
+use Rattle.rules.specs.meaning.States.{State}
 use Rattle.rules.specs.meaning.StepLines.{stepOf}
 use Rattle.rules.specs.meaning.Calls.{namedAfter}
 use Rattle.rules.specs.meaning.Reports.{reportRun, reportStart, lineEnd, endLines, saidOf, lastPiece, reportFrom, reportOf}

@@ -13,7 +13,9 @@ use Rattle.rules.specs.declared.Named.{Named}
 use Rattle.rules.specs.meaning.Table.{unused, soundFrom}
 use Rattle.rules.specs.meaning.Parcels.{noParcel, cleared, isFree, isOccupied, slotsSound, waiting}
 use Rattle.rules.specs.meaning.Ledgers.{ledgerSound}
-use Rattle.rules.specs.meaning.Runs.{State, firstGiven, freshRefusal, afterFresh, sizesRight, tablesSound, StateSound}
+use Rattle.rules.specs.meaning.States.{State, sizesRight, tablesSound, StateSound}
+use Rattle.rules.specs.meaning.Refusals.{firstGiven}
+use Rattle.rules.specs.meaning.Runs.{freshRefusal, afterFresh}
 use Rattle.rules.specs.laws.run.Bursts.{named-sound}
 use Rattle.rules.specs.meaning.StepLines.{stepOf}
 use Rattle.rules.specs.meaning.Calls.{namedAfter}

@@ -1,27 +1,29 @@
 -- The report of the lines of some steps: it is made of what each step says in its turn, and the end. A text that no step has is refused.
 -- Assumes nothing.
-use Prim.Native.Nat.{ℕ, zero, suc, _+_, _/_, _%_, _^_, _<_}
+use Prim.Native.Nat.{ℕ, zero, suc, _+_, _/_, _%_, _^_}
 use native.Mathlib.Omega.{arith}
 use mathlib.Core.Path.{_≡_, refl, ap, _∙_}
 use mathlib.Core.Bool.{Bool, true, false, _&&_, not}
 use mathlib.Core.List.{List, [], _∷_, _++_}
+use lib.ListN.{getD}
 use lib.Dec.{ltb, eqb}
 use borrow.Author.Tests.{ltb-true, ne-eqb}
 use Rattle.rules.specs.declared.Step.{Step}
-use Rattle.rules.specs.declared.Step.the-variants.{Add, Remove, Query, Send, Merge, Deliver, Again, Lose}
 use Rattle.rules.specs.declared.Named.{Named}
 use Rattle.rules.specs.declared.Named.the-variants.{Is}
 use Rattle.rules.specs.laws.table.View.{parts}
-use Rattle.rules.specs.meaning.Runs.{State, after}
+use Rattle.rules.specs.meaning.Kinds.{numbers}
+use Rattle.rules.specs.meaning.States.{State}
+use Rattle.rules.specs.meaning.Runs.{after}
 use Rattle.rules.specs.meaning.Number.{upTo, digits}
 use Rattle.rules.specs.laws.line.Numbers.{by-test}
-use Rattle.rules.specs.meaning.Lines.{lead, toName, idName, hasSecond, hasId, field, textOf}
+use Rattle.rules.specs.meaning.Lines.{leads, lead, toName, idName, hasSecond, hasId, field, textOf}
 use Rattle.rules.specs.meaning.StepLines.{lineOf, Fits}
 use Rattle.rules.specs.laws.line.Steps.{written-step}
 use Rattle.rules.specs.meaning.Calls.{namedAfter}
 use Rattle.rules.specs.meaning.Reports.{reportRun, reportStart, lineEnd, endLines, saidOf, reportFrom, reportOf}
 use Rattle.rules.specs.laws.report.Fits.{report-done}
-use Rattle.rules.specs.laws.report.Pieces.{unbroken, report-text}
+use Rattle.rules.specs.laws.report.Pieces.{unbroken, allUnbroken, report-text}
 
 -- ---- no line of a step has a line's end in it
 unbroken-both : (xs ys : List ℕ) → unbroken xs ≡ true → unbroken ys ≡ true → unbroken (xs ++ ys) ≡ true
@@ -50,23 +52,26 @@ unfolding field unbroken
 field-unbroken true name n h = unbroken-both name (digits n) h (digits-unbroken n)
 field-unbroken false name n h = refl
 
-text-unbroken : (kind first second e : ℕ) → unbroken (lead kind) ≡ true → unbroken (textOf kind first second e) ≡ true
-unfolding textOf unbroken
-text-unbroken kind first second e h =
-    unbroken-both (lead kind) _ h
-    (unbroken-both (digits first) _ (digits-unbroken first)
-    (unbroken-both (field (hasSecond kind) toName second) _ (field-unbroken (hasSecond kind) toName second refl) (field-unbroken (hasId kind) idName e refl)))
+one-unbroken : (texts : List (List ℕ)) → allUnbroken texts ≡ true → (k : ℕ) → unbroken (getD texts k []) ≡ true
+unfolding allUnbroken unbroken
+one-unbroken [] h k = refl
+one-unbroken (text ∷ texts) h zero = parts (unbroken text) _ h .0
+one-unbroken (text ∷ texts) h (suc k) = one-unbroken texts (parts (unbroken text) _ h .1) k
+
+lead-unbroken : (kind : ℕ) → unbroken (lead kind) ≡ true
+unfolding lead allUnbroken unbroken
+lead-unbroken kind = one-unbroken ([] ∷ leads) refl kind
 
 pub line-unbroken : (step : Step) → unbroken (lineOf step) ≡ true
-unfolding lineOf lead unbroken
-line-unbroken (Add k e) = text-unbroken 1 k 0 e refl
-line-unbroken (Remove k e) = text-unbroken 2 k 0 e refl
-line-unbroken (Query k e) = text-unbroken 3 k 0 e refl
-line-unbroken (Send f t e) = text-unbroken 4 f t e refl
-line-unbroken (Merge f t) = text-unbroken 5 f t 0 refl
-line-unbroken (Deliver i) = text-unbroken 6 i 0 0 refl
-line-unbroken (Again i) = text-unbroken 7 i 0 0 refl
-line-unbroken (Lose i) = text-unbroken 8 i 0 0 refl
+unfolding lineOf textOf unbroken
+line-unbroken step =
+    let kind : ℕ = numbers step .kind in
+    let first : ℕ = numbers step .first in
+    let second : ℕ = numbers step .second in
+    let id : ℕ = numbers step .id in
+    unbroken-both (lead kind) _ (lead-unbroken kind)
+    (unbroken-both (digits first) _ (digits-unbroken first)
+    (unbroken-both (field (hasSecond kind) toName second) _ (field-unbroken (hasSecond kind) toName second refl) (field-unbroken (hasId kind) idName id refl)))
 
 -- ---- the lines of some steps, each with its end
 unfoldable pub linesOf : List Step → List ℕ
@@ -80,32 +85,18 @@ AllFit (step ∷ steps) = Fits step × AllFit steps
 
 -- the test of it, which the checker computes for steps that are written out
 unfoldable pub fits : Step → Bool
-fits (Add k e) = ltb k (2 ^ 64) && ltb e (2 ^ 64)
-fits (Remove k e) = ltb k (2 ^ 64) && ltb e (2 ^ 64)
-fits (Query k e) = ltb k (2 ^ 64) && ltb e (2 ^ 64)
-fits (Send f t e) = ltb f (2 ^ 64) && (ltb t (2 ^ 64) && ltb e (2 ^ 64))
-fits (Merge f t) = ltb f (2 ^ 64) && ltb t (2 ^ 64)
-fits (Deliver i) = ltb i (2 ^ 64)
-fits (Again i) = ltb i (2 ^ 64)
-fits (Lose i) = ltb i (2 ^ 64)
+fits step = ltb (numbers step .first) (2 ^ 64) && (ltb (numbers step .second) (2 ^ 64) && ltb (numbers step .id) (2 ^ 64))
 
 unfoldable pub allFit : List Step → Bool
 allFit [] = true
 allFit (step ∷ steps) = fits step && allFit steps
 
-both-fit : (a b : ℕ) → ltb a (2 ^ 64) && ltb b (2 ^ 64) ≡ true → (a < 2 ^ 64) × (b < 2 ^ 64)
-both-fit a b h = let p = parts (ltb a (2 ^ 64)) _ h in (ltb-true a (2 ^ 64) (p .0), ltb-true b (2 ^ 64) (p .1))
-
 step-fits : (step : Step) → fits step ≡ true → Fits step
 unfolding fits
-step-fits (Add k e) h = both-fit k e h
-step-fits (Remove k e) h = both-fit k e h
-step-fits (Query k e) h = both-fit k e h
-step-fits (Send f t e) h = let p = parts (ltb f (2 ^ 64)) _ h in let q = both-fit t e (p .1) in (ltb-true f (2 ^ 64) (p .0), q .0, q .1)
-step-fits (Merge f t) h = both-fit f t h
-step-fits (Deliver i) h = ltb-true i (2 ^ 64) h
-step-fits (Again i) h = ltb-true i (2 ^ 64) h
-step-fits (Lose i) h = ltb-true i (2 ^ 64) h
+step-fits step h =
+    let p = parts (ltb (numbers step .first) (2 ^ 64)) _ h in
+    let q = parts (ltb (numbers step .second) (2 ^ 64)) _ (p .1) in
+    (ltb-true _ _ (p .0), ltb-true _ _ (q .0), ltb-true _ _ (q .1))
 
 pub steps-fit : (steps : List Step) → allFit steps ≡ true → AllFit steps
 unfolding allFit

@@ -1,7 +1,6 @@
 -- The laws of the inner step: what the judge's word before it means, and that from step to step no slot is free below the number that is handed on.
 -- Assumes nothing.
 use Prim.Native.Nat.{ℕ, zero, suc, _≤_}
-use native.Mathlib.Nat.{le-refl, le-trans}
 use native.Mathlib.Omega.{arith}
 use mathlib.Core.Path.{_≡_, refl, ap}
 use mathlib.Core.Bool.{Bool, true, false, cond}
@@ -10,15 +9,17 @@ use borrow.Author.Tests.{ne-eqb, not-false}
 use Rattle.rules.specs.declared.Answer.{Answer}
 use Rattle.rules.specs.declared.Run.{Run}
 use Rattle.rules.specs.declared.Step.{Step}
-use Rattle.rules.specs.declared.Step.the-variants.{Add, Remove, Query, Send, Merge, Deliver, Again, Lose}
 use Rattle.rules.specs.meaning.Operations.{answer}
 use Rattle.rules.specs.meaning.Lengths.{M}
 use Rattle.rules.specs.meaning.Parcels.{noParcel, slotsSound, lowestFree}
-use Rattle.rules.specs.laws.run.Slots.{set-lowest, lowest-within}
+use Rattle.rules.specs.laws.run.Slots.{set-lowest}
 use Rattle.rules.specs.laws.table.View.{parts}
-use Rattle.rules.specs.meaning.Runs.{State, width, sizesRight, tablesSound, allSound, StateSound, sightWith, sightOf, firstGiven, placeIn, parcelIn, valueIn, refusalIn, refusalOf, valueOf, stateBy, moved, after}
+use Rattle.rules.specs.meaning.Refusals.{firstGiven}
+use Rattle.rules.specs.meaning.States.{State, width, sizesRight, tablesSound, allSound, StateSound, sightWith}
+use Rattle.rules.specs.meaning.Runs.{refusalIn, refusalOf, valueOf, stateBy, moved, after, effectOf}
 use Rattle.rules.specs.laws.run.Steps.{pass}
 use Rattle.rules.specs.meaning.Acts.{judgedOf, Clear, answerUnder, afterUnder, Acted, lowTaken, lowAfter}
+use Rattle.rules.specs.laws.run.Rows.{owed}
 
 -- ---- the judge
 -- a state that is let through is sound, and a sound one is let through
@@ -53,20 +54,6 @@ judged-first run s step r h = go (sizesRight run (length (s .words)) (length (s 
 
 -- an accepted step sets no slot below what it hands on, and hands on nothing above the lowest free slot
 module _ (run : Run) (s : State) (low : ℕ) (under : low ≤ lowestFree (s .slots)) where
-  within : low ≤ length (s .slots)
-  within = le-trans under (lowest-within (s .slots))
-
-  taken-low : (step : Step) → (lowTaken low step (valueOf run s step) ≤ placeIn (sightOf run s step) step) × (lowTaken low step (valueOf run s step) ≤ lowestFree (s .slots))
-  unfolding lowTaken valueOf valueIn placeIn
-  taken-low (Add k e) = (within, under)
-  taken-low (Remove k e) = (within, under)
-  taken-low (Query k e) = (within, under)
-  taken-low (Send f t e) = (le-refl (lowestFree (s .slots)), le-refl (lowestFree (s .slots)))
-  taken-low (Merge f t) = (within, under)
-  taken-low (Deliver i) = (omega arith, omega (arith, under))
-  taken-low (Again i) = (le-refl (lowestFree (s .slots)), le-refl (lowestFree (s .slots)))
-  taken-low (Lose i) = (omega arith, omega (arith, under))
-
   -- a refused one hands on what it had
   refused-low : (step : Step) (r v : ℕ) → lowAfter low step (answer (suc r) v) ≡ low
   unfolding lowAfter
@@ -75,8 +62,8 @@ module _ (run : Run) (s : State) (low : ℕ) (under : low ≤ lowestFree (s .slo
   by-refusal : (step : Step) (r : ℕ) → lowAfter low step (answer r (valueOf run s step)) ≤ lowestFree (stateBy r s (moved run s step) .slots)
   unfolding lowAfter
   by-refusal step zero =
-      let told = taken-low step in
-      set-lowest (s .slots) (placeIn (sightOf run s step) step) (parcelIn run (s .words) (sightOf run s step) step) (lowTaken low step (valueOf run s step)) (told .0) (told .1)
+      let told = owed run s step .parcels .low low under in
+      set-lowest (s .slots) (effectOf run s step .post .place) (effectOf run s step .post .parcel) (lowTaken low step (valueOf run s step)) (told .0) (told .1)
   by-refusal step (suc r) = rw (refused-low step r (valueOf run s step)) under
 
   pub low-kept : (refused : ℕ) (step : Step) (r : Answer) (left : State) → Acted refused run s step r left → lowAfter low step r ≤ lowestFree (left .slots)

@@ -11,7 +11,8 @@ use Rattle.rules.specs.declared.Named.{Named}
 use Rattle.rules.specs.declared.Named.the-variants.{Is, NoStep}
 use Rattle.rules.specs.meaning.Operations.{unlessRefused}
 use Rattle.rules.specs.meaning.Put.{put}
-use Rattle.rules.specs.meaning.Runs.{State, stateBy, StateSound}
+use Rattle.rules.specs.meaning.States.{State, StateSound}
+use Rattle.rules.specs.meaning.Runs.{stateBy}
 use Rattle.rules.specs.laws.run.Sound.{after-sound}
 use Rattle.rules.specs.meaning.Histories.{ran}
 use Rattle.rules.specs.meaning.Calls.{namedAnswer, namedAfter}

@@ -12,7 +12,7 @@ use Rattle.rules.specs.declared.Run.{Run}
 use Rattle.rules.specs.meaning.Table.{sound}
 use Rattle.rules.specs.laws.table.Order.{Side, Side.below, Side.same, Side.above, side}
 use Rattle.rules.specs.laws.table.View.{parts}
-use Rattle.rules.specs.meaning.Runs.{width, tableAt, withTable, tablesSound}
+use Rattle.rules.specs.meaning.States.{width, tableAt, withTable, tablesSound}
 
 -- the part of site k of n is within the words
 pub part-fits : (k n w : ℕ) → k < n → k * w + w ≤ n * w

@@ -12,7 +12,7 @@ use Rattle.rules.specs.declared.Run.{Run}
 use Rattle.rules.specs.meaning.Lengths.{M}
 use Rattle.rules.specs.meaning.Table.{sound, capacity}
 use Rattle.rules.specs.laws.table.View.{parts}
-use Rattle.rules.specs.meaning.Runs.{State, width, tableAt, withTable, sizesRight, tablesSound, StateSound}
+use Rattle.rules.specs.meaning.States.{State, width, tableAt, withTable, sizesRight, tablesSound, StateSound}
 use Rattle.rules.specs.laws.run.Sites.{part-fits, tables-at, with-length, with-same, with-other, with-sound}
 
 -- the words of right sizes are as many as the tables take

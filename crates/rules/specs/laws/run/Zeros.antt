@@ -8,7 +8,7 @@ use mathlib.Core.Path.{_≡_}
 use mathlib.Core.List.{List}
 use lib.ListN.{take, drop, replicate}
 use Rattle.rules.specs.laws.table.View.{Unused, Unused.none, Unused.pair, Sound.rest, say}
-use Rattle.rules.specs.meaning.Runs.{tablesSound}
+use Rattle.rules.specs.meaning.States.{tablesSound}
 use Rattle.rules.specs.laws.run.Sites.{tables-by}
 
 one-pair-more : (c : ℕ) → 2 * suc c ≡ suc (suc (2 * c))

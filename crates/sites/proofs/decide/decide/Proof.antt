@@ -5,7 +5,7 @@ use mathlib.Core.Path.{_≡_, refl, _∙_}
 use mathlib.Core.List.{List}
 use denote.Ref.{now}
 use Rattle.rules.specs.declared.Sight.{Sight}
-use Rattle.rules.specs.meaning.Runs.{wordsIn}
+use Rattle.rules.specs.meaning.Steps.{effect}
 use Rattle.sites.specs.Verdicts.{Ready, lookedAt}
 use Rattle.sites.proofs.Deciding.{under-out, under-in, still-words}
 use borrow.Author.Needs.{needs}
@@ -121,7 +121,7 @@ same-length-3 : tie.Need-same-length-3
 same-length-3 c = search needs
 
 returns-4 : tie.Need-returns-4
-unfolding wordsIn
+unfolding effect
 returns-4 c =
     let e = c .before .before .before .before .before in
     let own = under-in (start e .args .run) (W e) (S e) _ (start e .args .refused) (through e) in
@@ -131,7 +131,7 @@ same-length-4 : tie.Need-same-length-4
 same-length-4 c = search needs
 
 returns-5 : tie.Need-returns-5
-unfolding wordsIn
+unfolding effect
 returns-5 c =
     let e = c .before .before .before .before .before in
     let own = under-in (start e .args .run) (W e) (S e) _ (start e .args .refused) (through e) in
@@ -158,14 +158,14 @@ returns-7 c =
     rw (d .before .before .before .step6 .given .1) (d .on-deliver .ensures .0 ∙ own .0, d .on-deliver .ensures .1 ∙ own .1)
 
 returns-8 : tie.Need-returns-8
-unfolding wordsIn
+unfolding effect
 returns-8 c =
     let e = c .before .before .before .before in
     let own = under-in (start e .args .run) (W e) (S e) _ (start e .args .refused) (through e) in
     rw (c .before .before .step7 .given .1) (c .on-again .ensures (W e) ∙ own .0, still-words (start e .args .run) (W e) (S e) _ refl ∙ own .1)
 
 returns-9 : tie.Need-returns-9
-unfolding wordsIn
+unfolding effect
 returns-9 c =
     let e = c .before .before .before .before in
     let own = under-in (start e .args .run) (W e) (S e) _ (start e .args .refused) (through e) in

@@ -1,7 +1,7 @@
 -- `sites::decide::needs_slot`: step by step.
 -- Assumes nothing.
 use mathlib.Core.Path.{sym, ap}
-use Rattle.sites.specs.Verdicts.{needsSlot}
+use Rattle.rules.specs.meaning.Kinds.{numbers, takesSlot}
 use borrow.Author.Needs.{needs}
 use Rattle.sites.proofs.decide.needs_slot.Statement.{statement}
 use Rattle.sites.proofs.decide.needs_slot.Tie as tie
@@ -31,36 +31,36 @@ enum-told-8 : tie.Need-enum-told-8
 enum-told-8 c = search needs
 
 returns : tie.Need-returns
-unfolding needsSlot
-returns c = sym (ap needsSlot (c .enum-told .given .1))
+unfolding numbers
+returns c = sym (ap takesSlot (c .enum-told .given .1))
 
 returns-2 : tie.Need-returns-2
-unfolding needsSlot
-returns-2 c = sym (ap needsSlot (c .enum-told2 .given .1))
+unfolding numbers
+returns-2 c = sym (ap takesSlot (c .enum-told2 .given .1))
 
 returns-3 : tie.Need-returns-3
-unfolding needsSlot
-returns-3 c = sym (ap needsSlot (c .enum-told3 .given .1))
+unfolding numbers
+returns-3 c = sym (ap takesSlot (c .enum-told3 .given .1))
 
 returns-4 : tie.Need-returns-4
-unfolding needsSlot
-returns-4 c = sym (ap needsSlot (c .enum-told4 .given .1))
+unfolding numbers
+returns-4 c = sym (ap takesSlot (c .enum-told4 .given .1))
 
 returns-5 : tie.Need-returns-5
-unfolding needsSlot
-returns-5 c = sym (ap needsSlot (c .enum-told5 .given .1))
+unfolding numbers
+returns-5 c = sym (ap takesSlot (c .enum-told5 .given .1))
 
 returns-6 : tie.Need-returns-6
-unfolding needsSlot
-returns-6 c = sym (ap needsSlot (c .enum-told6 .given .1))
+unfolding numbers
+returns-6 c = sym (ap takesSlot (c .enum-told6 .given .1))
 
 returns-7 : tie.Need-returns-7
-unfolding needsSlot
-returns-7 c = sym (ap needsSlot (c .enum-told7 .given .1))
+unfolding numbers
+returns-7 c = sym (ap takesSlot (c .enum-told7 .given .1))
 
 returns-8 : tie.Need-returns-8
-unfolding needsSlot
-returns-8 c = sym (ap needsSlot (c .enum-told8 .given .1))
+unfolding numbers
+returns-8 c = sym (ap takesSlot (c .enum-told8 .given .1))
 
 pub needs-slot-spec : {M : Type 1} → statement M
 needs-slot-spec =

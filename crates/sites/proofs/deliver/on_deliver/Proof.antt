@@ -11,7 +11,7 @@ use Rattle.rules.specs.declared.Answer.{Answer}
 use Rattle.rules.specs.meaning.Lengths.{join}
 use Rattle.rules.specs.meaning.Table.{lengthOf, heldWith}
 use Rattle.rules.specs.meaning.Operations.{crowded, absorbAnswer, absorbTable}
-use Rattle.rules.specs.meaning.Runs.{nothingThere}
+use Rattle.rules.specs.meaning.Steps.{nothingThere}
 use Rattle.sites.specs.Verdicts.{delivered}
 use Rattle.sites.proofs.Delivering.{its-site, deliver-none, deliver-crowded, deliver-full, deliver-step}
 use Rattle.sites.proofs.Tables.{part-end, site-sound, part-is, told-of, put-of, refused-verdict, refused-words}

@@ -1,7 +1,7 @@
 -- `sites::judge::all_sound`: test by test.
 -- Assumes nothing.
 use mathlib.Core.Path.{_≡_, sym, _∙_}
-use Rattle.rules.specs.meaning.Runs.{allSound}
+use Rattle.rules.specs.meaning.States.{allSound}
 use native.Mathlib.Omega.{arith}
 use borrow.Author.Needs.{needs}
 use Rattle.sites.proofs.judge.all_sound.Statement.{statement}

@@ -1,7 +1,7 @@
 -- `sites::judge::judge`: the two tests in order.
 -- Assumes nothing.
 use mathlib.Core.Path.{_≡_, sym, _∙_}
-use Rattle.rules.specs.meaning.Runs.{firstGiven}
+use Rattle.rules.specs.meaning.Refusals.{firstGiven}
 use Rattle.sites.specs.Verdicts.{judgement}
 use Rattle.sites.proofs.Judging.{sized}
 use native.Mathlib.Omega.{arith}

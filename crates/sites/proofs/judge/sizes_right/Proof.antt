@@ -3,7 +3,7 @@
 use Prim.Native.Nat.{_*_, _≤_}
 use lib.Dec.{leb}
 use borrow.Author.Tests.{le-leb, lt-leb}
-use Rattle.rules.specs.meaning.Runs.{sizesRight}
+use Rattle.rules.specs.meaning.States.{sizesRight}
 use Rattle.sites.proofs.Judging.{few-words}
 use native.Mathlib.Omega.{arith}
 use borrow.Author.Needs.{needs}

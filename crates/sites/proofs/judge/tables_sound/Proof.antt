@@ -9,7 +9,7 @@ use native.Mathlib.Nat.{zero-mul, suc-mul}
 use native.Mathlib.Numerals.{add-one}
 use Rattle.rules.specs.meaning.Lengths.{M}
 use Rattle.rules.specs.meaning.Table.{sound}
-use Rattle.rules.specs.meaning.Runs.{tablesSound}
+use Rattle.rules.specs.meaning.States.{tablesSound}
 use Rattle.rules.specs.laws.run.Sites.{part-fits}
 use Rattle.sites.proofs.Judging.{tables-more, tables-end}
 use native.Mathlib.Omega.{arith}

@@ -49,8 +49,9 @@ use Rattle.rules.specs.meaning.Lengths.{M as Most}
 use Rattle.rules.specs.meaning.Ledgers.{raisedLedger}
 use Rattle.rules.specs.meaning.Parcels.{noParcel, lowestFree}
 use Rattle.sites.specs.declared.verdict.Verdict.{Verdict}
-use Rattle.rules.specs.meaning.Runs.{lent, slotOf}
-use Rattle.sites.specs.Verdicts.{needsSlot, lookedAt, verdictUnder, wordsUnder, answerIn}
+use Rattle.rules.specs.meaning.Kinds.{slotOf, takesSlot}
+use Rattle.rules.specs.meaning.States.{lent}
+use Rattle.sites.specs.Verdicts.{lookedAt, verdictUnder, wordsUnder, answerIn}
 use Rattle.rules.specs.meaning.Acts.{Clear}
 use Rattle.parcels.proofs.Calls.{calls-value}
 use Rattle.ledger.proofs.Lent.{ref, val, typed, told, is-at, unlocks, locks, holds}
@@ -266,7 +267,7 @@ module _ {M : Type 1} (𝓤 : URA M) (H : Heap 𝓤) (A : Atoms 𝓤) (W : Given
         nothing ! $ holds ! P.the-type P′.the-plain (v .parcel) _ is-parcel $ fjoin ! $ owned ! usize (Is usize) (uint-makes 𝓤 H A W w64) (v .at) _ (refl, at-fits) $ fjoin ! $ move ! (2 ∷ 0 ∷ []) $ fjoin ! $ move ! (1 ∷ 0 ∷ []) $ join ! $ frame ! $ done !
 
     exits : (at : ℕ) (held : Parcel) (wanted : Bool) (free : ℕ) (zs₀ : List ℕ) (zs₁ : List Parcel) (k : Ledger)
-        → at ≡ slotOf asked → held ≡ getD ss at noParcel → wanted ≡ needsSlot asked → free ≡ cond wanted (lowestFree ss) 0 → Decided free held v zs₀ → length zs₀ ≡ length ws
+        → at ≡ slotOf asked → held ≡ getD ss at noParcel → wanted ≡ takesSlot asked → free ≡ cond wanted (lowestFree ss) 0 → Decided free held v zs₀ → length zs₀ ≡ length ws
         → k ≡ raisedLedger Most (v .counter) h → zs₁ ≡ set ss (v .at) (v .parcel) → length zs₁ ≡ length ss
         → ent 𝓤 (sep 𝓤 (sep 𝓤 (A .lft κ₁ q₁) (sem 𝓤 H A ftrue)) (sep 𝓤 (sem 𝓤 H A (finally P.the-row γ₁ zs₁)) (sep 𝓤 (sep 𝓤 (A .lft κ₂ q₂) (sem 𝓤 H A ftrue)) (sep 𝓤 (A .res γ₂ (T.the-row .coded .code k)) (sep 𝓤 (sep 𝓤 (A .lft κ₀ q₀) (sem 𝓤 H A ftrue)) (sem 𝓤 H A (finally u64 γ₀ zs₀)))))))
         (Post (val N.the-type N′.the-laws (answerIn v)))
@@ -309,7 +310,7 @@ module _ {M : Type 1} (𝓤 : URA M) (H : Heap 𝓤) (A : Atoms 𝓤) (W : Given
         split ! $ lft-end ! tt $ move ! (0 ∷ 2 ∷ []) $ use2 W (later (‵ own-slots ⊛ ‵ (flft κ₁ q₁))) (takes-back P.the-row κ₁ (ν ∷ []) q₁ γ₁ b₁ o₁ ss 𝓤 H A W room₁) $ await ! tt $ split ! $ move ! (2 ∷ []) $ drop ! $
         land ! (from ! (stop !)) (init ! 36 refl (typed P.the-type P′.the-laws 𝓤 H A W held _ is₂ .0)) $ rewrite ! 36 (λ (u : Val). ‵ (fat fullShare P′.mir l₁₀ 0 u)) (told P.the-type P′.the-laws held held w₂ is₂ refl) refl $
         -- `needs_slot`
-        calls-value ! fm needs-slot.ended (needs-slot.clauses 𝓤 H A mem run) known-needs-slot (to-needs-slot 𝓤 H A mem run asked) (had-needs-slot 𝓤 H A mem run W asked is-asked) (λ r. r ≡ needsSlot asked) (λ r e. id⊢ 𝓤 _)
+        calls-value ! fm needs-slot.ended (needs-slot.clauses 𝓤 H A mem run) known-needs-slot (to-needs-slot 𝓤 H A mem run asked) (had-needs-slot 𝓤 H A mem run W asked is-asked) (λ r. r ≡ takesSlot asked) (λ r e. id⊢ 𝓤 _)
         (and-then ! (load ! (from ! (stop !)) (look ! 47 refl)) (no-more !)) (λ wanted u e₃ is-wanted.
         land ! (from ! (stop !)) (init ! 34 refl (bool-lawful 𝓤 H A W .typed wanted _ is-wanted .0)) $ rewrite ! 34 (λ (u : Val). ‵ (fat fullShare tyBool l₁₁ 0 u)) (ap only is-wanted) refl $
         -- `lowest_free`: the slots are lent again, to be read

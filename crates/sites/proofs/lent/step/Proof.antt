@@ -49,7 +49,8 @@ use Rattle.rules.specs.declared.Step.{Step}
 use Rattle.rules.specs.declared.Answer.{Answer}
 use Rattle.rules.specs.meaning.Lengths.{M as Most}
 use Rattle.rules.specs.meaning.Parcels.{noParcel, scanOf}
-use Rattle.rules.specs.meaning.Runs.{lent, Stepped}
+use Rattle.rules.specs.meaning.States.{lent}
+use Rattle.rules.specs.meaning.Runs.{Stepped}
 use Rattle.sites.specs.Verdicts.{seenAs, judgement}
 use Rattle.ledger.proofs.Lent.{ref, val, typed, told, is-at, unlocks, locks, holds}
 use Rattle.sites.proofs.Lending.{Kept, lends-out, takes-back}

@@ -1,6 +1,7 @@
 -- `sites::low::low_taken`: step by step.
 -- Assumes nothing.
 use mathlib.Core.Path.{refl}
+use Rattle.rules.specs.meaning.Kinds.{numbers, slotOf}
 use Rattle.rules.specs.meaning.Acts.{lowTaken}
 use borrow.Author.Needs.{needs}
 use Rattle.sites.proofs.low.low_taken.Statement.{statement}
@@ -37,35 +38,35 @@ smaller-requires-2 : tie.Need-smaller-requires-2
 smaller-requires-2 c κs = search needs
 
 returns : tie.Need-returns
-unfolding lowTaken
+unfolding lowTaken slotOf numbers
 returns c = rw (c .enum-told .given .1) refl
 
 returns-2 : tie.Need-returns-2
-unfolding lowTaken
+unfolding lowTaken slotOf numbers
 returns-2 c = rw (c .enum-told2 .given .1) refl
 
 returns-3 : tie.Need-returns-3
-unfolding lowTaken
+unfolding lowTaken slotOf numbers
 returns-3 c = rw (c .enum-told3 .given .1) refl
 
 returns-4 : tie.Need-returns-4
-unfolding lowTaken
+unfolding lowTaken slotOf numbers
 returns-4 c = rw (c .enum-told4 .given .1) refl
 
 returns-5 : tie.Need-returns-5
-unfolding lowTaken
+unfolding lowTaken slotOf numbers
 returns-5 c = rw (c .enum-told5 .given .1) refl
 
 returns-6 : tie.Need-returns-6
-unfolding lowTaken
+unfolding lowTaken slotOf numbers
 returns-6 c = rw (c .before .before .step .given .1) (c .smaller .ensures)
 
 returns-7 : tie.Need-returns-7
-unfolding lowTaken
+unfolding lowTaken slotOf numbers
 returns-7 c = rw (c .enum-told6 .given .1) refl
 
 returns-8 : tie.Need-returns-8
-unfolding lowTaken
+unfolding lowTaken slotOf numbers
 returns-8 c = rw (c .before .before .step2 .given .1) (c .smaller2 .ensures)
 
 pub low-taken-spec : {M : Type 1} → statement M

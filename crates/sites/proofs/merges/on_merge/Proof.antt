@@ -9,7 +9,7 @@ use denote.Ref.{now}
 use Rattle.rules.specs.declared.Answer.{Answer}
 use Rattle.rules.specs.meaning.Table.{SoundTable}
 use Rattle.rules.specs.meaning.Operations.{mergeAnswer, mergeTable}
-use Rattle.rules.specs.meaning.Runs.{width, tableAt}
+use Rattle.rules.specs.meaning.States.{width, tableAt}
 use Rattle.sites.specs.Verdicts.{tableVerdict}
 use Rattle.sites.proofs.Merging.{merge-from, merge-to, merge-same, merge-step}
 use Rattle.sites.proofs.Tables.{part-end, site-sound, site-length, part-is, told-of, put-of, refused-verdict, refused-words}

@@ -7,7 +7,7 @@ use lib.ListN.{length}
 use denote.Ref.{now}
 use Rattle.rules.specs.declared.Found.the-variants.{At, Absent}
 use Rattle.rules.specs.meaning.Table.{SoundTable, lengthAt, foundOf, lengthOf}
-use Rattle.rules.specs.meaning.Runs.{tableAt}
+use Rattle.rules.specs.meaning.States.{tableAt}
 use Rattle.table.proofs.Raising.{place, its, above-zero, none}
 use Rattle.sites.proofs.Posting.{send-from, send-to, send-same, send-unheld, send-step}
 use Rattle.sites.proofs.Tables.{part-end, site-sound, site-length, part-is, told-of, refused-verdict}
