@@ -53,7 +53,7 @@ typedef char wg_needs_sizes_of_64_bits[sizeof(size_t) == 8 ? 1 : -1];
 #define WG_ASKS(n) ((size_t)(n) * 4u)
 #define WG_BURST_ANSWERS(n) ((size_t)(n) * 2u)
 
-/* The room that wg_report asks for n bytes of input: proved to hold every report of so many. */
+/* Room that is always enough for wg_report on n bytes of input: proved to hold every report of so many. */
 #define WG_REPORT_ROOM(n) ((size_t)(n) * 22u + 256u)
 
 /* ---- Kinds of step ------------------------------------------------------------------------------------------------------------------ */
@@ -207,8 +207,8 @@ size_t wg_write_line(uint64_t kind, uint64_t first, uint64_t second, uint64_t id
  * number of entries in its table. *written is how many bytes that is; bytes behind it keep what they had.
  *
  * A line that is no step line, an empty one, and a last piece without its byte 10 stand in the report as refused with 11.
- * Refuses in this order: 12 exactly when n is above 32,768; 13 exactly when room is below WG_REPORT_ROOM(n). Nothing is written then, and
- * *written is 0. */
+ * Refuses in this order: 12 exactly when n is above 32,768; 13 exactly when room is below the length of this very report. Nothing is written
+ * then, and *written is 0. WG_REPORT_ROOM(n) is always enough. With less the input is run twice, first to measure the report. */
 uint32_t wg_report(const uint8_t *input, size_t n, uint8_t *out, size_t room, size_t *written);
 
 /* ---- In short, over the calls above ------------------------------------------------------------------------------------------------- */

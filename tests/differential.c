@@ -552,10 +552,25 @@ static void case_read(rng *r) {
 
 /* ---- reports ---- */
 
+/* Room for the report of a text: its own length or the bound, mostly, and what stands next to them. */
+static size_t some_room(rng *r, const uint8_t *text, size_t n) {
+    static uint8_t whole[WG_REPORT_MAX];
+    size_t bound = WG_REPORT_ROOM(n), exact, near;
+    if (model_report(text, n, whole, sizeof whole, &exact) != 0) return (size_t)below(r, bound);
+    near = one_in(r, 3) ? bound : exact;
+    switch (below(r, 6)) {
+    case 0: return near - 1;
+    case 1: return near + 1;
+    case 2: return near + (size_t)below(r, 100);
+    case 3: return (size_t)below(r, near);
+    default: return near;
+    }
+}
+
 static void case_report(rng *r, int large) {
     static area *const areas[] = {&input, &out, &written, 0};
     static uint8_t text[TEXT_MAX];
-    size_t n, asked, has;
+    size_t n, has;
     if (one_in(r, 8)) {
         n = 32769 + (one_in(r, 2) ? 0 : (size_t)below(r, 120));
         memset(text, 10, n);
@@ -565,9 +580,7 @@ static void case_report(rng *r, int large) {
     area_place(&input, r, n);
     memcpy(input.start[0], text, n);
     area_share(&input);
-    asked = WG_REPORT_ROOM(n);
-    has = one_in(r, 3) ? asked + (size_t)below(r, 100) : asked;
-    if (one_in(r, 6)) has = one_in(r, 2) ? asked - 1 : (size_t)below(r, asked);
+    has = some_room(r, text, n);
     area_place(&out, r, has);
     noise(r, &out);
     area_place(&written, r, sizeof(size_t));

@@ -170,12 +170,25 @@ static void same_report(const char *what, size_t n, const char *want) {
     wrong = 1;
 }
 
+/* 2,000 bytes of the sample, over and over: the report is taken into a buffer of its own length, and one byte less is left as it was. */
+static void exact_room(void) {
+    size_t n = 2000, k, whole, written = 1;
+    for (k = 0; k < n; k++) input[k] = (uint8_t)sample[k % (sizeof sample - 1)];
+    same("2,000 bytes", wg_report(input, n, out, sizeof out, &whole), 0);
+    memset(out, 7, sizeof out);
+    same("a byte short", wg_report(input, n, out, whole - 1, &written), 13);
+    same("a byte short", written, 0);
+    for (k = 0; k < whole + 1; k++) same("a byte short", out[k], 7);
+    same("its own length", wg_report(input, n, out, whole, &written), 0);
+    same("its own length", written, whole);
+    same("the byte behind", out[whole], 7);
+}
+
 static void reports(void) {
     size_t written = 1;
     memcpy(input, sample, sizeof sample - 1);
     same_report("the sample report", sizeof sample - 1, sample_report);
-    same("a byte short", wg_report(input, sizeof sample - 1, out, WG_REPORT_ROOM(sizeof sample - 1) - 1, &written), 13);
-    same("a byte short", written, 0);
+    exact_room();
     memset(input, 10, sizeof input);
     written = 1;
     same("32,769 bytes", wg_report(input, WG_INPUT_MAX + 1, out, sizeof out, &written), 12);

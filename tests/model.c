@@ -434,8 +434,8 @@ uint32_t model_report(const uint8_t *input, size_t n, uint8_t *out, size_t room,
     *written = 0;
     said = 0;
     if (n > 32768) return 12;
-    if (room < 22 * n + 256) return 13;
     run_text(input, n);
+    if (room < said) return 13;
     memcpy(out, report, said);
     *written = said;
     return 0;

@@ -80,6 +80,7 @@ static void *report(void *unused) {
     size_t k, written;
     for (k = 0; k < sizeof input; k++) input[k] = (uint8_t)text[k % (sizeof text - 1)];
     wg_report(input, sizeof input, out, sizeof out, &written);
+    wg_report(input, sizeof input, out, written, &written); /* measured first */
     return unused;
 }
 

@@ -1,22 +1,23 @@
 // Inputs at the limit and one byte past it.
 use crate::show::two_ends;
 use crate::show::whole;
+use rules::INPUT_MAX;
 ghost use Prim.Native.Nat.{_<_};
 ghost use mathlib.Core.Path.{_≡_};
 ghost use lib.ListN.{length};
 
 // As many bytes as are run, all the same.
-fn full(b: u8) -> [u8; 32768]
+fn full(b: u8) -> [u8; INPUT_MAX]
     ensures { λ r. ⌜ 32768 ≡ length r ⌝ }
 {
-    [b; 32768]
+    [b; INPUT_MAX]
 }
 
 // One more.
-fn over(b: u8) -> [u8; 32769]
+fn over(b: u8) -> [u8; INPUT_MAX + 1]
     ensures { λ r. ⌜ 32769 ≡ length r ⌝ }
 {
-    [b; 32769]
+    [b; INPUT_MAX + 1]
 }
 
 // The place after the next, where the one behind the last is the first.

@@ -20,19 +20,19 @@ module _ (input before : List ℕ) where
 
   pub told-over : inputLimit < length input → Told input before (record { refusal = 12; written = 0 }) before
   told-over h =
-      let r = report-over (length input) (length before) h in
+      let r = report-over input (length before) h in
       let none = none-told 0 _ (told-refused input (length before) 11 r) in
       record { refusal = sym r; written = none .0; bytes = none .1 }
 
-  pub told-short : length input ≤ inputLimit → length before < reportRoom (length input) → Told input before (record { refusal = 13; written = 0 }) before
+  pub told-short : length input ≤ inputLimit → length before < length (reportOf input) → Told input before (record { refusal = 13; written = 0 }) before
   told-short h k =
-      let r = report-short (length input) (length before) h k in
+      let r = report-short input (length before) h k in
       let none = none-told 0 _ (told-refused input (length before) 12 r) in
       record { refusal = sym r; written = none .0; bytes = none .1 }
 
-  pub told-done : (n : ℕ) (after : List ℕ) → length input ≤ inputLimit → reportRoom (length input) ≤ length before → Laid before 0 (reportOf input) n after → Told input before (record { refusal = 0; written = n }) after
+  pub told-done : (n : ℕ) (after : List ℕ) → length input ≤ inputLimit → length (reportOf input) ≤ length before → Laid before 0 (reportOf input) n after → Told input before (record { refusal = 0; written = n }) after
   told-done n after h k w =
-      let r = report-taken (length input) (length before) h k in
+      let r = report-taken input (length before) h k in
       let t = told-taken input (length before) r in
       record { refusal = sym r; written = (let z : n ≡ length (reportOf input) = omega (arith, w .behind) in z) ∙ sym (ap length t); bytes = w .bytes ∙ ap (put before 0) (sym t) }
 

@@ -4,7 +4,7 @@ use Prim.Native.Nat.{ℕ, zero, suc, _+_, _-_, _≤_, _<_}
 use native.Mathlib.Omega.{arith}
 use native.Mathlib.Numerals.{add-one}
 use mathlib.Core.Path.{_≡_, refl, sym, ap, subst, _∙_}
-use mathlib.Core.List.{List, [], _∷_, _++_}
+use mathlib.Core.List.{List, [], _∷_, _++_, append-nil}
 use lib.ListN.{length, take, drop, getD}
 use lib.Seq.{slice, slice-empty, drop-length}
 use Rattle.rules.specs.declared.Answer.{Answer}
@@ -16,14 +16,15 @@ use Rattle.rules.specs.meaning.Runs.{after}
 use Rattle.rules.specs.meaning.Put.{put}
 use Rattle.rules.specs.meaning.StepLines.{stepOf}
 use Rattle.rules.specs.meaning.Calls.{namedAfter}
-use Rattle.rules.specs.meaning.Reports.{reportRun, reportStart, lineEnd, inputLimit, reportRoom, refusedLine, endLines, lineBy, saidOf, reportFrom, reportOf}
+use Rattle.rules.specs.meaning.Reports.{reportRun, reportStart, lineEnd, inputLimit, refusedLine, endLines, lineBy, saidOf, reportFrom, reportOf}
 use Rattle.rules.specs.laws.report.Fits.{report-done, report-starts, report-fits}
+use Rattle.rules.specs.laws.report.Parts.{end-within}
 use Rattle.rules.specs.laws.report.Places.{report-line-at, report-byte-at, report-unended-at, start-sound, state-sound}
-use Rattle.report.specs.Laid.{Laid}
+use Rattle.report.specs.Said.{Sayable, Said}
 use Rattle.report.specs.declared.ahead.Ahead.{Ahead}
 use Rattle.report.specs.Ahead.{Within, Ends, refusedAs, askedStep, ahead, Next}
-use Rattle.report.proofs.Left.{Left, left-all, left-room, left-next, left-as}
-use Rattle.report.proofs.Words.{said-none, said-step}
+use Rattle.report.proofs.Saying.{Still, still-all, still-as, still-next, still-sayable}
+use Rattle.report.proofs.Words.{said-none, said-step, said-short}
 
 -- ---- where a line ends
 module _ (input : List ℕ) (start : ℕ) where
@@ -110,14 +111,14 @@ pub record Passed (input first out : List ℕ) (s : State) (n start place : ℕ)
   pub inside : start ≤ length input
   pub count : n ≤ start + 1
   pub sound : StateSound reportRun s
-  pub left : Left out place (reportFrom n s [] (drop start input)) (0 + length (reportOf input)) (put first 0 (reportOf input))
+  pub left : Still out place (reportFrom n s [] (drop start input)) (0 + length (reportOf input)) (put first 0 (reportOf input))
 
-pub passed-start : (input first : List ℕ) → length input ≤ inputLimit → reportRoom (length input) ≤ length first → Passed input first first reportStart 1 0 0
-passed-start input first h r = record {
+pub passed-start : (input first : List ℕ) → (0 < length first → length (reportOf input) ≤ length first) → Passed input first first reportStart 1 0 0
+passed-start input first r = record {
   inside = omega arith;
   count = omega arith;
   sound = start-sound;
-  left = left-as (report-starts input) (left-all first 0 (reportOf input) (omega (arith, report-fits input h)));
+  left = still-as (report-starts input) (still-all first 0 (reportOf input) (λ some. omega (arith, r some)));
 }
 
 -- what the inner step answers and leaves is what the line says and leaves
@@ -135,23 +136,30 @@ module _ (input first out : List ℕ) (s : State) (n start place : ℕ) (p : Pas
       let t = acted-says n s (next .names) a left (subst (λ (m : Ahead). Acted (m .refusal) reportRun s (m .step) a left) (next .is) did) in
       (t .0 ∙ ap (λ (m : Ahead). lineBy (a .refusal) n (m .step) (a .value)) (sym (next .is)), t .1)
 
-  line-left : Left out place (lineBy (a .refusal) n (l .step) (a .value) ++ reportFrom (n + 1) left [] (drop (l .next) input)) (0 + length (reportOf input)) (put first 0 (reportOf input))
-  line-left = left-as (next .report n s ∙ rw (says .0, says .1, add-one n)) (p .left)
+  line-left : Still out place (lineBy (a .refusal) n (l .step) (a .value) ++ reportFrom (n + 1) left [] (drop (l .next) input)) (0 + length (reportOf input)) (put first 0 (reportOf input))
+  line-left = still-as (next .report n s ∙ rw (says .0, says .1, add-one n)) (p .left)
 
-  pub line-room : place + length (lineBy (a .refusal) n (l .step) (a .value)) ≤ length out
-  line-room = left-room (lineBy (a .refusal) n (l .step) (a .value)) _ line-left
+  pub line-sayable : length input ≤ inputLimit → Sayable 99 out place (lineBy (a .refusal) n (l .step) (a .value))
+  line-sayable small =
+      still-sayable 99 (lineBy (a .refusal) n (l .step) (a .value)) _ line-left
+      (subst (λ (t : List ℕ). length t ≤ 99) (says .0) (said-short n s (next .names) (omega (arith, p .count, p .inside))))
+      (omega (arith, report-fits input small))
 
-  pub passed-line : (place′ : ℕ) (after : List ℕ) → Laid out place (lineBy (a .refusal) n (l .step) (a .value)) place′ after → Passed input first after left (n + 1) (l .next) place′
-  passed-line place′ after w = record {
+  pub passed-line : (place′ : ℕ) (after : List ℕ) → Said out place (lineBy (a .refusal) n (l .step) (a .value)) place′ after → length after ≡ length out → Passed input first after left (n + 1) (l .next) place′
+  passed-line place′ after w long = record {
     inside = next .inside;
     count = omega (arith, p .count, next .behind);
     sound = rw (says .1) (state-sound s (next .names) (p .sound));
-    left = left-next (lineBy (a .refusal) n (l .step) (a .value)) _ line-left w;
+    left = still-next (lineBy (a .refusal) n (l .step) (a .value)) _ line-left w long;
   }
 
 -- ---- the end of the input: only the end of the report is left
 pub passed-end : (input first out : List ℕ) (s : State) (n start place : ℕ) → Passed input first out s n start place → length input ≤ start
-    → Left out place (endLines s) (0 + length (reportOf input)) (put first 0 (reportOf input))
+    → Still out place (endLines s) (0 + length (reportOf input)) (put first 0 (reportOf input))
 passed-end input first out s n start place p over =
     let at : start ≡ length input = omega (arith, p .inside) in
-    left-as (rw (at, drop-length input) (report-done n s)) (p .left)
+    still-as (rw (at, drop-length input) (report-done n s)) (p .left)
+
+pub end-sayable : {out : List ℕ} {place : ℕ} {wanted : List ℕ} (input : List ℕ) → length input ≤ inputLimit → (s : State) → Still out place (endLines s) (0 + length (reportOf input)) wanted → Sayable 187 out place (endLines s)
+end-sayable input small s l =
+    still-sayable 187 (endLines s) [] (still-as (sym (append-nil (endLines s))) l) (end-within s) (omega (arith, report-fits input small))

@@ -1,10 +1,11 @@
 -- The lines of a report by the pieces in which they are written.
 -- Assumes nothing.
-use Prim.Native.Nat.{ℕ, zero, suc}
+use Prim.Native.Nat.{ℕ, zero, suc, _≤_, _<_}
 use native.Mathlib.Omega.{arith}
 use mathlib.Core.Path.{_≡_, refl, sym, ap, _∙_}
-use mathlib.Core.Bool.{Bool, cond}
+use mathlib.Core.Bool.{Bool, true, false, cond}
 use mathlib.Core.List.{List, [], _∷_, _++_, append-assoc}
+use lib.ListN.{length}
 use types.Run.{OneOf, miss}
 use denote.Enum.Declared.{tagOf}
 use Rattle.rules.proofs.Step as Q
@@ -18,10 +19,11 @@ use Rattle.rules.specs.meaning.Lengths.{listed}
 use Rattle.rules.specs.meaning.Operations.{answer}
 use Rattle.rules.specs.meaning.States.{State}
 use Rattle.rules.specs.meaning.Runs.{refusalOf, valueOf, answerOf}
-use Rattle.rules.specs.meaning.Kinds.{numbers}
+use Rattle.rules.specs.meaning.Kinds.{numbers, isQuery}
 use Rattle.rules.specs.meaning.Text.{ascii}
 use Rattle.rules.specs.meaning.Number.{digits}
 use Rattle.rules.specs.meaning.Reports.{reportRun, lineEnd, refusedLine, queryLine, countLine, ledgerLines, acceptedLine, lineBy, saidOf}
+use Rattle.rules.specs.laws.report.Parts.{refusal-within, refused-within, query-within}
 
 -- a name and a number
 abbrev pub pair : List ℕ → ℕ → List ℕ
@@ -90,3 +92,21 @@ said-none n s r e = rw e
 pub said-step : (n : ℕ) (s : State) (r : Named) (step : Step) (a : Answer) → r ≡ Is step → a ≡ answerOf reportRun s step → saidOf n s r ≡ lineBy (a .refusal) n step (a .value)
 unfolding saidOf
 said-step n s r step a e h = rw (e, h) (sym (line-answer (refusalOf reportRun s step) (valueOf reportRun s step) n step))
+
+-- ---- no line is longer than 99 bytes
+accepted-short : (n : ℕ) (step : Step) (m : ℕ) → n < 100000 → length (acceptedLine n step m) ≤ 99
+unfolding acceptedLine
+accepted-short n step m p = go (isQuery step)
+  where
+    go : (b : Bool) → length (cond b (queryLine n (numbers step .first) (numbers step .id) m) []) ≤ 99
+    go true = query-within n (numbers step .first) (numbers step .id) m p
+    go false = omega arith
+
+line-short : (r n : ℕ) (step : Step) (m : ℕ) → n < 100000 → r ≤ 10 → length (lineBy r n step m) ≤ 99
+line-short zero n step m p q = accepted-short n step m p
+line-short (suc r) n step m p q = let a : length (refusedLine n (suc r)) ≤ 22 = refused-within n (suc r) p (omega arith) in omega arith
+
+pub said-short : (n : ℕ) (s : State) (r : Named) → n < 100000 → length (saidOf n s r) ≤ 99
+unfolding saidOf
+said-short n s (Is step) p = line-short (refusalOf reportRun s step) n step (valueOf reportRun s step) p (refusal-within reportRun s step)
+said-short n s NoStep p = let a = refused-within n 11 p (omega arith) in omega arith

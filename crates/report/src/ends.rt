@@ -12,6 +12,7 @@ ghost use Rattle.rules.specs.meaning.Parcels.{waiting};
 ghost use Rattle.rules.specs.meaning.States.{lent, StateSound};
 ghost use Rattle.rules.specs.meaning.Reports.{reportRun, ledgerLines, siteLine, siteLines, endLines};
 ghost use Rattle.report.specs.Laid.{Laid};
+ghost use Rattle.report.specs.Said.{Sayable, Said};
 ghost use Rattle.report.specs.Tables.{ThreeTables};
 
 // "Waiting is not stored: it is the number of occupied slots"
@@ -59,7 +60,7 @@ fn write_sites(out: &mut [u8], place: usize, words: &[u64]) -> usize
     next
 }
 
-pub(crate) fn write_ending(
+fn write_ending(
     out: &mut [u8],
     place: usize,
     words: [u64; 48],
@@ -71,4 +72,23 @@ pub(crate) fn write_ending(
 {
     let next = write_ledger(out, place, ledger, count_waiting(slots));
     write_sites(out, next, &words)
+}
+
+// The same; but into an empty buffer nothing is written, and the ending is measured where no one sees it. None is longer than 187 bytes.
+pub(crate) fn say_ending(
+    out: &mut [u8],
+    place: usize,
+    words: [u64; 48],
+    slots: [Parcel; 8],
+    ledger: Ledger,
+) -> usize
+    requires { ⌜ StateSound reportRun (lent words slots ledger) × Sayable 187 (now out) place (endLines (lent words slots ledger)) ⌝ }
+    ensures { λ r. ⌜ Said (now (out .entry)) place (endLines (lent words slots ledger)) r (now (out .exit)) ⌝ }
+{
+    if out.len() > 0 {
+        return write_ending(out, place, words, slots, ledger);
+    }
+    let mut aside = [0u8; 187];
+    let long = write_ending(&mut aside, 0, words, slots, ledger);
+    place + long
 }

@@ -1,21 +1,22 @@
 // One pass over the input: its lines are run in their order, and each says what it has to say.
 use crate::ahead::next_line;
-use crate::ends::write_ending;
-use crate::said::write_said;
+use crate::ends::say_ending;
+use crate::said::say_line;
 use rules::Ledger;
 use rules::Parcel;
 use rules::Run;
 use sites::act;
-ghost use Prim.Native.Nat.{_≤_};
+ghost use Prim.Native.Nat.{_≤_, _<_};
 ghost use lib.ListN.{length};
-ghost use Rattle.rules.specs.meaning.Reports.{reportOf, reportRoom, inputLimit};
-ghost use Rattle.report.specs.Laid.{Laid};
+ghost use Rattle.rules.specs.meaning.Reports.{reportOf, inputLimit};
+ghost use Rattle.report.specs.Said.{Said};
 
-// The whole report, at the front of a buffer that has room for it. The run stands in locals and is lent to each step. It begins fresh and steps alone
-// change it, so that it is sound throughout and is never judged. `start` is where line n begins.
-pub(crate) fn write_report(input: &[u8], out: &mut [u8]) -> usize
-    requires { ⌜ (length (now input) ≤ inputLimit) × (reportRoom (length (now input)) ≤ length (now out)) ⌝ }
-    ensures { λ r. ⌜ Laid (now (out .entry)) 0 (reportOf (now (input .entry))) r (now (out .exit)) ⌝ }
+// The whole report, at the front of a buffer that has room for it; into an empty one nothing is written, and what is returned is the report's length.
+// The run stands in locals and is lent to each step. It begins fresh and steps alone change it, so that it is sound throughout and is never judged.
+// `start` is where line n begins.
+pub(crate) fn say_report(input: &[u8], out: &mut [u8]) -> usize
+    requires { ⌜ (length (now input) ≤ inputLimit) × (0 < length (now out) → length (reportOf (now input)) ≤ length (now out)) ⌝ }
+    ensures { λ r. ⌜ Said (now (out .entry)) 0 (reportOf (now (input .entry))) r (now (out .exit)) ⌝ }
 {
     let run = Run {
         sites: 3,
@@ -42,9 +43,9 @@ pub(crate) fn write_report(input: &[u8], out: &mut [u8]) -> usize
         let step = line.step;
         let refused = line.refusal;
         let answer = act(&mut words, &mut slots, &mut ledger, run, step, refused, 0);
-        place = write_said(out, place, n, step, answer);
+        place = say_line(out, place, n, step, answer);
         start = line.next;
         n += 1;
     }
-    write_ending(out, place, words, slots, ledger)
+    say_ending(out, place, words, slots, ledger)
 }

@@ -11,9 +11,10 @@ ghost use lib.ListN.{length};
 ghost use Rattle.rules.specs.meaning.Lengths.{listed};
 ghost use Rattle.rules.specs.meaning.Reports.{refusedLine, queryLine, lineBy};
 ghost use Rattle.report.specs.Laid.{Laid};
+ghost use Rattle.report.specs.Said.{Sayable, Said};
 
 // "a line for each refused step (input line counted from 1, number)"
-pub(crate) fn write_refused(out: &mut [u8], place: usize, line: u64, refusal: u64) -> usize
+fn write_refused(out: &mut [u8], place: usize, line: u64, refusal: u64) -> usize
     requires { ⌜ place + length (refusedLine line refusal) ≤ length (now out) ⌝ }
     ensures { λ r. ⌜ Laid (now (out .entry)) place (refusedLine line refusal) r (now (out .exit)) ⌝ }
 {
@@ -42,13 +43,7 @@ fn write_query(out: &mut [u8], place: usize, line: u64, site: u64, id: u64, held
 }
 
 // The line of a refused step or of an accepted query; every other step says nothing.
-pub(crate) fn write_said(
-    out: &mut [u8],
-    place: usize,
-    line: u64,
-    step: Step,
-    answer: Answer,
-) -> usize
+fn write_said(out: &mut [u8], place: usize, line: u64, step: Step, answer: Answer) -> usize
     requires { ⌜ place + length (lineBy (answer .refusal) line step (answer .value)) ≤ length (now out) ⌝ }
     ensures { λ r. ⌜ Laid (now (out .entry)) place (lineBy (answer .refusal) line step (answer .value)) r (now (out .exit)) ⌝ }
 {
@@ -59,4 +54,17 @@ pub(crate) fn write_said(
         return place;
     };
     write_query(out, place, line, site, id, answer.value)
+}
+
+// The same; but into an empty buffer nothing is written, and the line is measured where no one sees it. None is longer than 99 bytes.
+pub(crate) fn say_line(out: &mut [u8], place: usize, line: u64, step: Step, answer: Answer) -> usize
+    requires { ⌜ Sayable 99 (now out) place (lineBy (answer .refusal) line step (answer .value)) ⌝ }
+    ensures { λ r. ⌜ Said (now (out .entry)) place (lineBy (answer .refusal) line step (answer .value)) r (now (out .exit)) ⌝ }
+{
+    if out.len() > 0 {
+        return write_said(out, place, line, step, answer);
+    }
+    let mut aside = [0u8; 99];
+    let long = write_said(&mut aside, 0, line, step, answer);
+    place + long
 }

@@ -3,6 +3,17 @@
 // The largest length. It is odd, so only a remove can run out of lengths.
 pub const M: u64 = 4294967295;
 
+// The most bytes of input that a report is made of.
+pub const INPUT_MAX: usize = 32768;
+
+// The room that every report of so many bytes fits: 22 for each, and 256 more.
+pub const ROOM_BY_BYTE: usize = 22;
+
+pub const ROOM_BESIDES: usize = 256;
+
+// The same for the largest input: 721,152 bytes.
+pub const REPORT_MAX: usize = ROOM_BY_BYTE * INPUT_MAX + ROOM_BESIDES;
+
 // Where an id stands in a table: the place of its entry, or its absence.
 pub enum Found {
     At(usize),

@@ -7,10 +7,8 @@ use Rattle.rules.specs.declared.Run.{Run}
 use Rattle.rules.specs.declared.Sight.{Sight}
 use Rattle.rules.specs.declared.Step.{Step}
 use Rattle.rules.specs.meaning.Operations.{unlessRefused}
-
 use Rattle.sites.specs.Verdicts.{refusedVerdict, stepRefusal, stepVerdict, stepWords, verdictUnder, wordsUnder}
 use Rattle.rules.specs.meaning.Steps.{effect}
-use Rattle.sites.specs.Verdicts.{refusedVerdict, stepRefusal, stepVerdict, stepWords, verdictUnder, wordsUnder}
 
 module _ (run : Run) (ws : List ℕ) (si : Sight) (step : Step) where
   -- refused before

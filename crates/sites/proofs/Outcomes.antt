@@ -31,7 +31,6 @@ use Rattle.rules.specs.laws.run.Steps.{sound-judged}
 use Rattle.sites.specs.Verdicts.{Ready, seenAs, judgement, stepRefusal, stepVerdict, stepWords, verdictBy, lookedAt, verdictUnder, wordsUnder, answerIn, freshWords, slotsToClear}
 use Rattle.rules.specs.laws.run.Acts.{judged-first}
 use Rattle.rules.specs.meaning.Steps.{effect}
-use Rattle.sites.specs.Verdicts.{Ready, seenAs, judgement, stepRefusal, stepVerdict, stepWords, verdictBy, lookedAt, verdictUnder, wordsUnder, answerIn, freshWords, slotsToClear}
 use Rattle.rules.specs.meaning.Acts.{judgedOf, answerUnder, afterUnder, Acted}
 use Rattle.sites.proofs.Judging.{sized}
 

@@ -13,8 +13,8 @@ slice-aggregate-read-full c = search needs
 read-full-requires : tie.Need-read-full-requires
 read-full-requires c κs = search needs
 
-output-buffer-requires : tie.Need-output-buffer-requires
-output-buffer-requires c κs = search needs
+largest-room-requires : tie.Need-largest-room-requires
+largest-room-requires c κs = search needs
 
 array-share-prefix-input : tie.Need-array-share-prefix-input
 array-share-prefix-input c = search needs
@@ -47,7 +47,7 @@ main-spec =
     input-buffer-requires
     slice-aggregate-read-full
     read-full-requires
-    output-buffer-requires
+    largest-room-requires
     array-share-prefix-input
     slice-aggregate-printed
     slice-aggregate-printed-2

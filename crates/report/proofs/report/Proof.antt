@@ -1,7 +1,13 @@
 -- `report::report`: the two refusals, and the report. Assumes nothing.
 use native.Mathlib.Omega.{arith}
+use Prim.Native.Nat.{_≤_}
+use mathlib.Core.Path.{sym, _∙_}
+use lib.ListN.{length}
 use denote.Ref.{now}
+use borrow.Author.Tests.{ltb-true, ltb-false}
+use Rattle.rules.specs.meaning.Reports.{reportOf}
 use Rattle.report.proofs.Answers.{told-over, told-short, told-done}
+use Rattle.report.proofs.Saying.{laid-fits}
 use borrow.Author.Needs.{needs}
 use Rattle.report.proofs.report.Statement.{statement}
 use Rattle.report.proofs.report.Tie as tie
@@ -9,25 +15,24 @@ use Rattle.report.proofs.report.Tie as tie
 returns : tie.Need-returns
 returns c = let s = c .before .before .before .args in told-over (now (s .input)) (now (s .out)) (c .if1 .taken)
 
-mul-if2 : tie.Need-mul-if2
-mul-if2 c = search needs
-
-add-if2 : tie.Need-add-if2
-add-if2 c = search needs
+too-short-requires : tie.Need-too-short-requires
+too-short-requires c κs = search needs
 
 returns-2 : tie.Need-returns-2
-returns-2 c = let s = c .before .before .before .before .args in told-short (now (s .input)) (now (s .out)) (omega arith) (omega arith)
+returns-2 c = let s = c .before .before .before .before .before .args in told-short (now (s .input)) (now (s .out)) (omega arith) (ltb-true _ _ (sym (c .before .too-short .ensures) ∙ c .if2 .taken))
 
-write-report-requires : tie.Need-write-report-requires
-write-report-requires c κs = search needs
+say-report-requires : tie.Need-say-report-requires
+say-report-requires c κs = (omega arith, λ _. ltb-false _ _ (sym (c .before .before .too-short .ensures) ∙ c .before .if2 .left))
 
 same-length : tie.Need-same-length
 same-length c = search needs
 
 returns-3 : tie.Need-returns-3
-returns-3 c = let s = c .before .before .before .before .before .before .before .before .args in told-done (now (s .input)) (now (s .out)) _ _ (omega arith) (omega arith) (c .before .before .write-report .ensures)
+returns-3 c = let s = c .before .before .before .before .before .before .before .before .before .args in
+    let fits : length (reportOf (now (s .input))) ≤ length (now (s .out)) = ltb-false _ _ (sym (c .before .before .before .before .before .too-short .ensures) ∙ c .before .before .before .before .if2 .left) in
+    told-done (now (s .input)) (now (s .out)) _ _ (omega arith) fits (laid-fits _ _ _ fits (c .before .before .say-report .kept .1 .0) (c .before .before .say-report .ensures))
 
 pub report-spec : {M : Type 1} → statement M
 report-spec =
     tie.close
-    (tie.spec returns mul-if2 add-if2 returns-2 write-report-requires same-length returns-3)
+    (tie.spec returns too-short-requires returns-2 say-report-requires same-length returns-3)

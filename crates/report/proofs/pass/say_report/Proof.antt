@@ -1,4 +1,4 @@
--- `report::pass::write_report` meets its contract: a walk of its MIR, by hand, with a loop. The run stands in three locals. In each turn they are laid into memory, lent to `act` and lifted again (`on-act` of the crate `kept`), and the buffer is lent to `write_said` (`Relend.antt` of the crate `sites`); `write_ending` has it for good.
+-- `report::pass::say_report` meets its contract: a walk of its MIR, by hand, with a loop. The run stands in three locals. In each turn they are laid into memory, lent to `act` and lifted again (`on-act` of the crate `kept`), and the buffer is lent to `say_line` (`Relend.antt` of the crate `sites`); `say_ending` has it for good.
 -- The loop's variant is a `State`: the locals' values that change, with the machine values of the two arrays, and what is known of them (`Passed` of `Passing.antt`). All that the proof knows of the four callees is that each meets its contract.
 -- Assumes nothing.
 use mathlib.Core.Path.{_≡_, refl, sym, ap, subst, _∙_}
@@ -57,10 +57,10 @@ use Rattle.rules.specs.meaning.Parcels.{noParcel}
 use Rattle.rules.specs.meaning.Put.{put}
 use Rattle.rules.specs.meaning.States.{State as Whole, lent}
 use Rattle.rules.specs.meaning.Acts.{Clear, Acted}
-use Rattle.rules.specs.meaning.Reports.{reportRun, inputLimit, reportRoom, lineBy, endLines, reportOf}
+use Rattle.rules.specs.meaning.Reports.{reportRun, inputLimit, lineBy, endLines, reportOf}
 use Rattle.report.specs.declared.ahead.Ahead.{Ahead}
 use Rattle.report.specs.Ahead.{Next}
-use Rattle.report.specs.Laid.{Laid}
+use Rattle.report.specs.Said.{Sayable, Said}
 use Rattle.ledger.proofs.Lent.{ref, val, typed, told, is-at, holds}
 use Rattle.sites.proofs.OnAct.{OneAct, asked-val}
 use Rattle.sites.proofs.Relend.{lentSlice, Waiting, relends, returned}
@@ -68,8 +68,8 @@ use Rattle.kept.proofs.Elements.{repeated}
 use Rattle.kept.proofs.Locals.{lays, lifts, lays-array, lifts-array}
 use Rattle.kept.proofs.LentRun.{room48, room8, words-typed, slots-typed}
 use Rattle.kept.proofs.OnAct.{on-act}
-use Rattle.report.proofs.Left.{Left, left-fits, laid-last}
-use Rattle.report.proofs.Passing.{Passed, passed-start, line-room, passed-line, passed-end}
+use Rattle.report.proofs.Saying.{Still, still-said}
+use Rattle.report.proofs.Passing.{Passed, passed-start, line-sayable, passed-line, passed-end, end-sayable}
 use Rattle.rules.proofs.Ledger as T
 use Rattle.rules.proofs.Ledger.Laws as T′
 use Rattle.rules.proofs.Parcel as P
@@ -89,21 +89,21 @@ use Rattle.report.proofs.ahead.next_line as next-line
 use Rattle.report.proofs.ahead.next_line.Symbol as next-line-def
 use Rattle.report.proofs.ahead.next_line.Symbol.{name as #next-line}
 use Rattle.report.proofs.ahead.next_line.Met as next-line-thm
-use Rattle.report.proofs.said.write_said as write-said
-use Rattle.report.proofs.said.write_said.Symbol as write-said-def
-use Rattle.report.proofs.said.write_said.Symbol.{name as #write-said}
-use Rattle.report.proofs.said.write_said.Met as write-said-thm
-use Rattle.report.proofs.ends.write_ending as write-ending
-use Rattle.report.proofs.ends.write_ending.Symbol as write-ending-def
-use Rattle.report.proofs.ends.write_ending.Symbol.{name as #write-ending}
-use Rattle.report.proofs.ends.write_ending.Met as write-ending-thm
-use Rattle.report.proofs.pass.write_report.Key.{name as #write-report}
-use Rattle.report.proofs.pass.write_report as write-report
-use Rattle.report.proofs.pass.write_report.Statement as stated
-use Rattle.report.proofs.pass.write_report.Code as code
-use Rattle.report.proofs.pass.write_report.Code.Mir as mir
+use Rattle.report.proofs.said.say_line as say-line
+use Rattle.report.proofs.said.say_line.Symbol as say-line-def
+use Rattle.report.proofs.said.say_line.Symbol.{name as #say-line}
+use Rattle.report.proofs.said.say_line.Met as say-line-thm
+use Rattle.report.proofs.ends.say_ending as say-ending
+use Rattle.report.proofs.ends.say_ending.Symbol as say-ending-def
+use Rattle.report.proofs.ends.say_ending.Symbol.{name as #say-ending}
+use Rattle.report.proofs.ends.say_ending.Met as say-ending-thm
+use Rattle.report.proofs.pass.say_report.Key.{name as #say-report}
+use Rattle.report.proofs.pass.say_report as say-report
+use Rattle.report.proofs.pass.say_report.Statement as stated
+use Rattle.report.proofs.pass.say_report.Code as code
+use Rattle.report.proofs.pass.say_report.Code.Mir as mir
 
-abbrev stayed : Stays (write-report.ended .signature .params) (write-report.ended .kept)
+abbrev stayed : Stays (say-report.ended .signature .params) (say-report.ended .kept)
 stayed = (stay-none-slice (0 ∷ []) tt (plain (λ _. u8)) yes, (gave-slice (1 ∷ []) tt (plain (λ _. u8)), tt))
 
 -- the machine values of the records
@@ -179,8 +179,8 @@ module _ (xs out₀ : List ℕ) where
   abbrev now-in : State → Whole
   now-in t = lent (t .words) (t .slots) (t .ledger)
 
-  abbrev begin : length xs ≤ inputLimit → reportRoom (length xs) ≤ length out₀ → State
-  begin small wide = record {
+  abbrev begin : (0 < length out₀ → length (reportOf xs) ≤ length out₀) → State
+  begin wide = record {
     n = 1;
     start = 0;
     place = 0;
@@ -193,7 +193,7 @@ module _ (xs out₀ : List ℕ) where
     is-words = is-fresh-words;
     is-slots = is-fresh-slots;
     is-ledger = is-empty;
-    passed = passed-start xs out₀ small wide;
+    passed = passed-start xs out₀ wide;
     place-fits = lit< tt;
     long = refl;
   }
@@ -202,10 +202,10 @@ module _ (xs out₀ : List ℕ) where
     nearer : length xs - line .next < length xs - t .start
     nearer = omega (arith, next .behind, next .inside)
 
-    -- the state after a turn: r and the three last values are what `act` said, place and zs what `write_said` left
+    -- the state after a turn: r and the three last values are what `act` said, place and zs what `say_line` left
     module _ (r : Answer) (zs₀ : List ℕ) (zs₁ : List Parcel) (k : Ledger) (v₀ v₁ : Val) (is₀ : Is (Array u64 48) zs₀ (v₀ ∷ [])) (is₁ : Is (Array P.the-row 8) zs₁ (v₁ ∷ [])) (is-k : Is T.the-row k (ledger-val k ∷ []))
         (did : Acted (line .refusal) reportRun (now-in t) (line .step) r (lent zs₀ zs₁ k)) (place′ : ℕ) (zs : List ℕ) where
-      abbrev turned : place′ < 2 ^ 64 → Laid (t .out) (t .place) (lineBy (r .refusal) (t .n) (line .step) (r .value)) place′ zs → length zs ≡ length (t .out) → State
+      abbrev turned : place′ < 2 ^ 64 → Said (t .out) (t .place) (lineBy (r .refusal) (t .n) (line .step) (r .value)) place′ zs → length zs ≡ length (t .out) → State
       turned fits said len = record {
         n = t .n + 1;
         start = line .next;
@@ -219,7 +219,7 @@ module _ (xs out₀ : List ℕ) where
         is-words = is₀;
         is-slots = is₁;
         is-ledger = is-k;
-        passed = passed-line xs out₀ (t .out) (now-in t) (t .n) (t .start) (t .place) (t .passed) line next r (lent zs₀ zs₁ k) did place′ zs said;
+        passed = passed-line xs out₀ (t .out) (now-in t) (t .n) (t .start) (t .place) (t .passed) line next r (lent zs₀ zs₁ k) did place′ zs said len;
         place-fits = fits;
         long = len ∙ t .long;
       }
@@ -231,16 +231,16 @@ module _ (xs out₀ : List ℕ) where
   slots-long : (t : State) → length (t .slots) ≡ 8
   slots-long t = t .is-slots .1 .0 .1
 
-  -- what `act` and `write_said` require
+  -- what `act` and `say_line` require
   clear : (t : State) (refused : ℕ) → Clear refused 0 reportRun (now-in t)
   clear t refused = ((λ _. t .passed .sound), omega arith)
 
-  fits-in : (t : State) (line : Ahead) → Next xs (t .start) line → (r : Answer) (zs₀ : List ℕ) (zs₁ : List Parcel) (k : Ledger) → Acted (line .refusal) reportRun (now-in t) (line .step) r (lent zs₀ zs₁ k)
-      → t .place + length (lineBy (r .refusal) (t .n) (line .step) (r .value)) ≤ length (t .out)
-  fits-in t line next r zs₀ zs₁ k did = line-room xs out₀ (t .out) (now-in t) (t .n) (t .start) (t .place) (t .passed) line next r (lent zs₀ zs₁ k) did
+  fits-in : length xs ≤ inputLimit → (t : State) (line : Ahead) → Next xs (t .start) line → (r : Answer) (zs₀ : List ℕ) (zs₁ : List Parcel) (k : Ledger) → Acted (line .refusal) reportRun (now-in t) (line .step) r (lent zs₀ zs₁ k)
+      → Sayable 99 (t .out) (t .place) (lineBy (r .refusal) (t .n) (line .step) (r .value))
+  fits-in small t line next r zs₀ zs₁ k did = line-sayable xs out₀ (t .out) (now-in t) (t .n) (t .start) (t .place) (t .passed) line next r (lent zs₀ zs₁ k) did small
 
   -- the input is at its end: only the end of the report is left
-  at-end : (t : State) → length xs ≤ t .start → Left (t .out) (t .place) (endLines (now-in t)) (0 + length (reportOf xs)) (put out₀ 0 (reportOf xs))
+  at-end : (t : State) → length xs ≤ t .start → Still (t .out) (t .place) (endLines (now-in t)) (0 + length (reportOf xs)) (put out₀ 0 (reportOf xs))
   at-end t over = passed-end xs out₀ (t .out) (now-in t) (t .n) (t .start) (t .place) (t .passed) over
 
 module _ {M : Type 1} (𝓤 : URA M) (H : Heap 𝓤) (A : Atoms 𝓤) (mem : Memory → SProp 𝓤) (run : Routine → Fun 𝓤) where
@@ -248,18 +248,18 @@ module _ {M : Type 1} (𝓤 : URA M) (H : Heap 𝓤) (A : Atoms 𝓤) (mem : Mem
   abbrev NextLine : Contract 𝓤
   NextLine = tripleOf 𝓤 H A next-line.signature (next-line.spec 𝓤 H A mem run)
 
-  abbrev WriteSaid : Contract 𝓤
-  WriteSaid = tripleOf 𝓤 H A write-said.signature (write-said.spec 𝓤 H A mem run)
+  abbrev SayLine : Contract 𝓤
+  SayLine = tripleOf 𝓤 H A say-line.signature (say-line.spec 𝓤 H A mem run)
 
-  abbrev WriteEnding : Contract 𝓤
-  WriteEnding = tripleOf 𝓤 H A write-ending.signature (write-ending.spec 𝓤 H A mem run)
+  abbrev SayEnding : Contract 𝓤
+  SayEnding = tripleOf 𝓤 H A say-ending.signature (say-ending.spec 𝓤 H A mem run)
 
   -- of the `ensured` of `next_line`, which only reads, the clause alone
   next-line-of : (κ : Lft) (x : RefT (List ℕ)) (i : ℕ) (r : Ahead) → ent 𝓤 (ensured 𝓤 H A next-line.ended (next-line.clauses 𝓤 H A mem run) (κ, tt) (x, (i, tt)) tt r) (fact 𝓤 (Next (x .now) i r))
   next-line-of κ x i r = exE 𝓤 _ (λ ws. snd∗ 𝓤 (sem 𝓤 H A (lasts next-line.ended (κ, tt) (x, (i, tt)) ws)) (fact 𝓤 (Next (x .now) i r)))
 
 module _ {M : Type 1} (𝓤 : URA M) (H : Heap 𝓤) (A : Atoms 𝓤) (W : Given 𝓤 H A) (mem : Memory → SProp 𝓤) (run : Routine → Fun 𝓤) (κ₀ κ₁ : Lft) (q₀ q₁ : Share)
-    (b₀ o₀ : ℕ) (γ₀ : GName) (xs : List ℕ) (b₁ o₁ : ℕ) (γ₁ : GName) (out₀ : List ℕ) (room₀ : Room u8 (length xs)) (room₁ : Room u8 (length out₀)) (small : length xs ≤ inputLimit) (wide : reportRoom (length xs) ≤ length out₀) where
+    (b₀ o₀ : ℕ) (γ₀ : GName) (xs : List ℕ) (b₁ o₁ : ℕ) (γ₁ : GName) (out₀ : List ℕ) (room₀ : Room u8 (length xs)) (room₁ : Room u8 (length out₀)) (small : length xs ≤ inputLimit) (wide : 0 < length out₀ → length (reportOf xs) ≤ length out₀) where
   -- the slices' machine values, and what is owned of each reference
   abbrev s₀ : Val
   s₀ = sliceVal (b₀, o₀) (length xs)
@@ -280,7 +280,7 @@ module _ {M : Type 1} (𝓤 : URA M) (H : Heap 𝓤) (A : Atoms 𝓤) (W : Given
   vals = (s₀ ∷ [], (s₁ ∷ [], tt))
 
   abbrev Post : Val → SProp 𝓤
-  Post = walkOf 𝓤 H A write-report.ended stayed (write-report.clauses 𝓤 H A mem run) .post (((κ₀, (κ₁, tt)), (q₀, (q₁, tt)), tt, a, vals), tt)
+  Post = walkOf 𝓤 H A say-report.ended stayed (say-report.clauses 𝓤 H A mem run) .post (((κ₀, (κ₁, tt)), (q₀, (q₁, tt)), tt, a, vals), tt)
 
   -- what the callees' triples bind outside, and that the caller has what they ask
   abbrev to-next-line : ℕ → NextLine 𝓤 H A mem run .Ghost
@@ -291,17 +291,17 @@ module _ {M : Type 1} (𝓤 : URA M) (H : Heap 𝓤) (A : Atoms 𝓤) (W : Given
       qed W (‵ (flft κ₀ q₀) ∷ ‵ own-input ∷ []) ∵ says ! less $ nothing ! $ move ! (1 ∷ 0 ∷ []) $ join ! $
       nothing ! $ owned ! usize (Is usize) (uint-makes 𝓤 H A W w64) i _ (refl, fits) $ fjoin ! $ move ! (2 ∷ 0 ∷ []) $ fjoin ! $ move ! (1 ∷ 0 ∷ []) $ done !
 
-  abbrev to-write-said : ℕ → GName → State xs out₀ → Ahead → Answer → WriteSaid 𝓤 H A mem run .Ghost
-  to-write-said ν δ t line r =
+  abbrev to-say-line : ℕ → GName → State xs out₀ → Ahead → Answer → SayLine 𝓤 H A mem run .Ghost
+  to-say-line ν δ t line r =
       (((ν ∷ [], tt), (fullShare, tt), tt, (ref b₁ o₁ δ (t .out), (t .place, (t .n, (line .step, (r, tt))))), (s₁ ∷ [], (vint w64 (t .place) ∷ [], (vint w64 (t .n) ∷ [], (asked-val (line .step) ∷ [], (answer-of r ∷ [], tt)))))), tt)
 
   -- n is at most the number of bytes that are read, and 1
   n-small : (t : State xs out₀) → t .n + 1 < 2 ^ 64
   n-small t = omega (arith, t .passed .count, t .passed .inside, small)
 
-  goes-write-said : (ν : ℕ) (δ : GName) (t : State xs out₀) (line : Ahead) (r : Answer) → Is Q.the-row (line .step) (asked-val (line .step) ∷ []) → Is N.the-row r (answer-of r ∷ []) → t .place + length (lineBy (r .refusal) (t .n) (line .step) (r .value)) ≤ length (t .out)
-      → ent 𝓤 (sep 𝓤 (A .lft (ν ∷ []) fullShare) (sem 𝓤 H A (lentSlice u8 (ν ∷ []) δ b₁ o₁ (length out₀) (t .out)))) (WriteSaid 𝓤 H A mem run .pre (to-write-said ν δ t line r))
-  goes-write-said ν δ t line r is-step is-answer enough =
+  goes-say-line : (ν : ℕ) (δ : GName) (t : State xs out₀) (line : Ahead) (r : Answer) → Is Q.the-row (line .step) (asked-val (line .step) ∷ []) → Is N.the-row r (answer-of r ∷ []) → Sayable 99 (t .out) (t .place) (lineBy (r .refusal) (t .n) (line .step) (r .value))
+      → ent 𝓤 (sep 𝓤 (A .lft (ν ∷ []) fullShare) (sem 𝓤 H A (lentSlice u8 (ν ∷ []) δ b₁ o₁ (length out₀) (t .out)))) (SayLine 𝓤 H A mem run .pre (to-say-line ν δ t line r))
+  goes-say-line ν δ t line r is-step is-answer enough =
       qed W (‵ (flft (ν ∷ []) fullShare) ∷ ‵ (lentSlice u8 (ν ∷ []) δ b₁ o₁ (length out₀) (t .out)) ∷ []) ∵ says ! enough $ nothing ! $ move ! (1 ∷ 0 ∷ []) $ join ! $
       nothing ! $ holds ! N.the-type N′.the-plain r _ is-answer $ fjoin ! $ owned ! Q.the-row (Is Q.the-row) (EL.makes Q.the-type Q′.the-plain 𝓤 H A) (line .step) _ is-step $ fjoin ! $
       owned ! u64 (Is u64) (uint-makes 𝓤 H A W w64) (t .n) _ (refl, n-fits) $ fjoin ! $ owned ! usize (Is usize) (uint-makes 𝓤 H A W w64) (t .place) _ (refl, t .place-fits) $ fjoin ! $ move ! (2 ∷ 0 ∷ []) $ fjoin ! $ move ! (1 ∷ 0 ∷ []) $ done !
@@ -312,28 +312,28 @@ module _ {M : Type 1} (𝓤 : URA M) (H : Heap 𝓤) (A : Atoms 𝓤) (W : Given
   abbrev to-end : State xs out₀ → RefT (List ℕ) × (ℕ × (List ℕ × (List Parcel × (Ledger × Unit {0}))))
   to-end t = (ref b₁ o₁ γ₁ (t .out), (t .place, (t .words, (t .slots, (t .ledger, tt)))))
 
-  abbrev to-write-ending : State xs out₀ → WriteEnding 𝓤 H A mem run .Ghost
-  to-write-ending t = (((κ₁, tt), (q₁, tt), tt, to-end t, (s₁ ∷ [], (vint w64 (t .place) ∷ [], (t .words-at ∷ [], (t .slots-at ∷ [], (ledger-val (t .ledger) ∷ [], tt)))))), tt)
+  abbrev to-say-ending : State xs out₀ → SayEnding 𝓤 H A mem run .Ghost
+  to-say-ending t = (((κ₁, tt), (q₁, tt), tt, to-end t, (s₁ ∷ [], (vint w64 (t .place) ∷ [], (t .words-at ∷ [], (t .slots-at ∷ [], (ledger-val (t .ledger) ∷ [], tt)))))), tt)
 
-  goes-write-ending : (t : State xs out₀) → t .place + length (endLines (now-in xs out₀ t)) ≤ length (t .out) → ent 𝓤 (sep 𝓤 (A .lft κ₁ q₁) (sem 𝓤 H A (own-out (t .out)))) (WriteEnding 𝓤 H A mem run .pre (to-write-ending t))
-  goes-write-ending t enough =
+  goes-say-ending : (t : State xs out₀) → Sayable 187 (t .out) (t .place) (endLines (now-in xs out₀ t)) → ent 𝓤 (sep 𝓤 (A .lft κ₁ q₁) (sem 𝓤 H A (own-out (t .out)))) (SayEnding 𝓤 H A mem run .pre (to-say-ending t))
+  goes-say-ending t enough =
       qed W (‵ (flft κ₁ q₁) ∷ ‵ (own-out (t .out)) ∷ []) ∵ says ! (t .passed .sound, enough) $ nothing ! $ move ! (1 ∷ 0 ∷ []) $ join ! $
       nothing ! $ holds ! T.the-type T′.the-plain (t .ledger) _ (t .is-ledger) $ fjoin ! $
       owned ! (Array P.the-row 8) (Is (Array P.the-row 8)) (array-makes 𝓤 H A W P.the-row (LL.makes P.the-type P′.the-plain 𝓤 H A) 8) (t .slots) _ (t .is-slots) $ fjoin ! $
       owned ! (Array u64 48) (Is (Array u64 48)) (array-makes 𝓤 H A W u64 (uint-makes 𝓤 H A W w64) 48) (t .words) _ (t .is-words) $ fjoin ! $
       owned ! usize (Is usize) (uint-makes 𝓤 H A W w64) (t .place) _ (refl, t .place-fits) $ fjoin ! $ move ! (2 ∷ 0 ∷ []) $ fjoin ! $ move ! (1 ∷ 0 ∷ []) $ done !
 
-  exits : (r : ℕ) (zs : List ℕ) → r < 2 ^ 64 → Laid out₀ 0 (reportOf xs) r zs → length zs ≡ length out₀
+  exits : (r : ℕ) (zs : List ℕ) → r < 2 ^ 64 → Said out₀ 0 (reportOf xs) r zs → length zs ≡ length out₀
       → ent 𝓤 (⋆ 𝓤 H A (‵ own-input ∷ ‵ (flft κ₀ q₀) ∷ ‵ (finally u8 γ₁ zs) ∷ ‵ (flft κ₁ q₁) ∷ [])) (Post (vint w64 r))
   exits r zs fits told-all len =
       qed W (‵ own-input ∷ ‵ (flft κ₀ q₀) ∷ ‵ (finally u8 γ₁ zs) ∷ ‵ (flft κ₁ q₁) ∷ []) ∵
-      suffices ! _ (ends-at 𝓤 H A write-report.ended stayed (write-report.clauses 𝓤 H A mem run) W (((κ₀, (κ₁, tt)), (q₀, (q₁, tt)), tt, a, vals), tt) (vint w64 r) r (tt, (zs, tt)) (tt, (len, tt))) $ says ! told-all $
+      suffices ! _ (ends-at 𝓤 H A say-report.ended stayed (say-report.clauses 𝓤 H A mem run) W (((κ₀, (κ₁, tt)), (q₀, (q₁, tt)), tt, a, vals), tt) (vint w64 r) r (tt, (zs, tt)) (tt, (len, tt))) $ says ! told-all $
       nothing ! $ move ! (4 ∷ 0 ∷ []) $ join ! $ move ! (2 ∷ 0 ∷ []) $ join ! $ frame ! $
       -- [input; the last out]
       nothing ! $ move ! (2 ∷ 0 ∷ []) $ fjoin ! $ move ! (1 ∷ 0 ∷ []) $ fjoin ! $ owned ! usize (Is usize) (uint-makes 𝓤 H A W w64) r _ (refl, fits) $ move ! (1 ∷ 0 ∷ []) $ done !
 
-  module _ (𝓣 : Tables 𝓤 H) (known-act : Triple 𝓤 (𝓣 .C #act) (OneAct 𝓤 H A mem run)) (known-next-line : Triple 𝓤 (𝓣 .C #next-line) (NextLine 𝓤 H A mem run)) (known-write-said : Triple 𝓤 (𝓣 .C #write-said) (WriteSaid 𝓤 H A mem run))
-      (known-write-ending : Triple 𝓤 (𝓣 .C #write-ending) (WriteEnding 𝓤 H A mem run)) where
+  module _ (𝓣 : Tables 𝓤 H) (known-act : Triple 𝓤 (𝓣 .C #act) (OneAct 𝓤 H A mem run)) (known-next-line : Triple 𝓤 (𝓣 .C #next-line) (NextLine 𝓤 H A mem run)) (known-say-line : Triple 𝓤 (𝓣 .C #say-line) (SayLine 𝓤 H A mem run))
+      (known-say-ending : Triple 𝓤 (𝓣 .C #say-ending) (SayEnding 𝓤 H A mem run)) where
     abbrev C : Calls 𝓤 H
     C = 𝓣 .C
 
@@ -411,15 +411,15 @@ module _ {M : Type 1} (𝓤 : URA M) (H : Heap 𝓤) (A : Atoms 𝓤) (W : Given
           (λ ν₀ ν₁ ν₂ δ₀ δ₁ δ₂. (and-then ! (load ! (from ! (stop !)) (look ! 28 refl)) (and-then ! (load ! (from ! (stop !)) (look ! 24 refl)) (and-then ! (load ! (from ! (stop !)) (look ! 22 refl)) (and-then ! (load ! (from ! (stop !)) (look ! 55 refl)) (and-then ! (load ! (from ! (stop !)) (look ! 40 refl)) (and-then ! (load ! (from ! (stop !)) (look ! 38 refl)) (and-then ! (lit ! tt) (no-more !))))))))) (λ w₂ r zs₀ zs₁ k did len₀ len₁ is₂.
           land ! (from ! (stop !)) (init ! 35 refl (typed N.the-type N′.the-laws 𝓤 H A W r _ is₂ .0)) $ rewrite ! 35 (λ (u : Val). ‵ (fat fullShare N′.mir l₁₄ 0 u)) (told N.the-type N′.the-laws r r w₂ is₂ refl) refl $
           move ! (2 ∷ []) $ lifts ! T.the-type T′.the-laws l₇ 0 k (λ is-k. move ! (2 ∷ []) $ lifts-array ! P.the-row 8 zs₁ (len₁ ∙ slots-long xs out₀ t) l₆ 0 (λ v₁ is-zs₁. move ! (2 ∷ []) $ lifts-array ! u64 48 zs₀ (len₀ ∙ words-long xs out₀ t) l₅ 0 (λ v₀ is-zs₀.
-          -- the items are those of `At` again. `write_said`: the buffer is lent, and comes back
+          -- the items are those of `At` again. `say_line`: the buffer is lent, and comes back
           assigns ! (addr ! (from ! (fld ! refl (hop ! (look-in ! 56 (sub ! 0 refl (whole !))) (stop !))))) (from ! (stop !)) (init ! 19 refl (tt, tt)) $
           assigns ! (agg ! (and-then ! (load ! (from ! (stop !)) (look ! 19 refl)) (and-then ! (load ! (from ! (fld ! refl (stop !))) (look-in ! 56 (sub ! 1 refl (whole !)))) (no-more !)))) (from ! (stop !)) (init ! 17 refl (tt, (tt, (record { fits = room₁ .0 }, tt)))) $
           lft-new ! tt (λ ν. move ! (6 ∷ 7 ∷ []) $ use2 W (later (some (λ (δ : GName). ‵ (lentSlice u8 (ν ∷ []) δ b₁ o₁ (length out₀) (t .out)) ⊛ ‵ (Waiting u8 κ₁ (ν ∷ []) q₁ γ₁ b₁ o₁ (length out₀) δ (t .out))))) (relends u8 κ₁ (ν ∷ []) q₁ γ₁ b₁ o₁ (length out₀) 𝓤 H A W (t .out) (t .long) room₁) $ await ! tt $ pick ! (λ δ. split ! $
-          move ! (2 ∷ 0 ∷ []) $ use2 W (raw (WriteSaid 𝓤 H A mem run .pre (to-write-said ν δ t line r))) (goes-write-said ν δ t line r (step-is line w₁ is₁) (is-at N.the-type N′.the-laws r r w₂ is₂ refl) (fits-in xs out₀ t line next r zs₀ zs₁ k did)) $
-          calls-at ! (fmOf 𝓤 H (W .laws) 𝓣) (WriteSaid 𝓤 H A mem run) known-write-said (to-write-said ν δ t line r) (and-then ! (load ! (from ! (stop !)) (look ! 17 refl)) (and-then ! (load ! (from ! (stop !)) (look ! 43 refl)) (and-then ! (load ! (from ! (stop !)) (look ! 47 refl)) (and-then ! (load ! (from ! (stop !)) (look ! 39 refl)) (and-then ! (load ! (from ! (stop !)) (look ! 35 refl)) (no-more !)))))) (λ w₃.
-          use1 W (later (some (λ (p : ℕ). ((‵ (flft (ν ∷ []) fullShare) ⊛ ‵ ftrue) ⊛ ‵ (usize .own p (w₃ ∷ []))) ⊛ raw (ensured 𝓤 H A write-said.ended (write-said.clauses 𝓤 H A mem run) (ν ∷ [], tt) (ref b₁ o₁ δ (t .out), (t .place, (t .n, (line .step, (r, tt))))) tt p)))) (id⊢ 𝓤 _) $ await ! tt $ pick ! (λ place.
-          split ! $ move ! (1 ∷ []) $ use1 W (some (λ (zs : List ℕ × (Unit {0} × (Unit {0} × (Unit {0} × (Unit {0} × Unit {0}))))). ‵ (lasts write-said.ended (ν ∷ [], tt) (ref b₁ o₁ δ (t .out), (t .place, (t .n, (line .step, (r, tt))))) zs) ⊛ raw (fact 𝓤 (Laid (t .out) (t .place) (lineBy (r .refusal) (t .n) (line .step) (r .value)) place (zs .0))))) (id⊢ 𝓤 _) $ pick ! (λ zs.
-          split ! $ move ! (1 ∷ []) $ heard ! (Laid (t .out) (t .place) (lineBy (r .refusal) (t .n) (line .step) (r .value)) place (zs .0)) (λ said. fsplit ! $ fsplit ! $ move ! (1 ∷ []) $ feqL ! (λ len. move ! (2 ∷ []) $ split ! $ move ! (1 ∷ []) $ peeks ! usize (Is usize) (shows 𝓤 H A usize) place (w₃ ∷ []) (λ is₃. drop ! $
+          move ! (2 ∷ 0 ∷ []) $ use2 W (raw (SayLine 𝓤 H A mem run .pre (to-say-line ν δ t line r))) (goes-say-line ν δ t line r (step-is line w₁ is₁) (is-at N.the-type N′.the-laws r r w₂ is₂ refl) (fits-in xs out₀ small t line next r zs₀ zs₁ k did)) $
+          calls-at ! (fmOf 𝓤 H (W .laws) 𝓣) (SayLine 𝓤 H A mem run) known-say-line (to-say-line ν δ t line r) (and-then ! (load ! (from ! (stop !)) (look ! 17 refl)) (and-then ! (load ! (from ! (stop !)) (look ! 43 refl)) (and-then ! (load ! (from ! (stop !)) (look ! 47 refl)) (and-then ! (load ! (from ! (stop !)) (look ! 39 refl)) (and-then ! (load ! (from ! (stop !)) (look ! 35 refl)) (no-more !)))))) (λ w₃.
+          use1 W (later (some (λ (p : ℕ). ((‵ (flft (ν ∷ []) fullShare) ⊛ ‵ ftrue) ⊛ ‵ (usize .own p (w₃ ∷ []))) ⊛ raw (ensured 𝓤 H A say-line.ended (say-line.clauses 𝓤 H A mem run) (ν ∷ [], tt) (ref b₁ o₁ δ (t .out), (t .place, (t .n, (line .step, (r, tt))))) tt p)))) (id⊢ 𝓤 _) $ await ! tt $ pick ! (λ place.
+          split ! $ move ! (1 ∷ []) $ use1 W (some (λ (zs : List ℕ × (Unit {0} × (Unit {0} × (Unit {0} × (Unit {0} × Unit {0}))))). ‵ (lasts say-line.ended (ν ∷ [], tt) (ref b₁ o₁ δ (t .out), (t .place, (t .n, (line .step, (r, tt))))) zs) ⊛ raw (fact 𝓤 (Said (t .out) (t .place) (lineBy (r .refusal) (t .n) (line .step) (r .value)) place (zs .0))))) (id⊢ 𝓤 _) $ pick ! (λ zs.
+          split ! $ move ! (1 ∷ []) $ heard ! (Said (t .out) (t .place) (lineBy (r .refusal) (t .n) (line .step) (r .value)) place (zs .0)) (λ said. fsplit ! $ fsplit ! $ move ! (1 ∷ []) $ feqL ! (λ len. move ! (2 ∷ []) $ split ! $ move ! (1 ∷ []) $ peeks ! usize (Is usize) (shows 𝓤 H A usize) place (w₃ ∷ []) (λ is₃. drop ! $
           split ! $ lft-end ! tt $ move ! (0 ∷ 4 ∷ 2 ∷ []) $ use3 W (later (‵ (own-out (zs .0)) ⊛ ‵ (flft κ₁ q₁))) (returned u8 κ₁ (ν ∷ []) q₁ γ₁ b₁ o₁ (length out₀) 𝓤 H A W (t .out) (t .long) room₁ δ (zs .0) len) $ await ! tt $ split ! $ move ! (2 ∷ []) $ drop ! $ move ! (2 ∷ []) $ drop ! $ move ! (2 ∷ 3 ∷ 4 ∷ 5 ∷ 6 ∷ []) $
           land ! (from ! (stop !)) (store ! 43 refl (uint-lawful 𝓤 H A W w64 .typed place _ is₃ .0)) $ rewrite ! 43 (λ (u : Val). ‵ (fat fullShare (tyInt w64) l₁₀ 0 u)) (ap only (is₃ .0)) refl $
           assigns ! (of-opd ! (load ! (from ! (fld ! refl (stop !))) (look-in ! 41 (sub ! 2 refl (whole !))))) (from ! (stop !)) (store ! 45 refl (tt, record { fits = next-fits line w₁ is₁ })) $
@@ -444,18 +444,18 @@ module _ {M : Type 1} (𝓤 : URA M) (H : Heap 𝓤) (A : Atoms 𝓤) (W : Given
           assigns ! (of-opd ! (load ! (from ! (stop !)) (look ! 0 refl))) (from ! (stop !)) (init ! 11 refl (words-typed 𝓤 H A W (t .words) (t .words-at) (t .is-words) .0)) $
           assigns ! (of-opd ! (load ! (from ! (stop !)) (look ! 1 refl))) (from ! (stop !)) (init ! 9 refl (slots-typed 𝓤 H A W (t .slots) (t .slots-at) (t .is-slots) .0)) $
           assigns ! (of-opd ! (load ! (from ! (stop !)) (look ! 2 refl))) (from ! (stop !)) (init ! 7 refl (typed T.the-type T′.the-laws 𝓤 H A W (t .ledger) _ (t .is-ledger) .0)) $
-          -- `write_ending`: the buffer is handed on
-          move ! (6 ∷ 5 ∷ []) $ use2 W (raw (WriteEnding 𝓤 H A mem run .pre (to-write-ending t))) (goes-write-ending t (left-fits (at-end xs out₀ t o))) $
-          calls-at ! (fmOf 𝓤 H (W .laws) 𝓣) (WriteEnding 𝓤 H A mem run) known-write-ending (to-write-ending t) (and-then ! (load ! (from ! (stop !)) (look ! 12 refl)) (and-then ! (load ! (from ! (stop !)) (look ! 42 refl)) (and-then ! (load ! (from ! (stop !)) (look ! 10 refl)) (and-then ! (load ! (from ! (stop !)) (look ! 8 refl)) (and-then ! (load ! (from ! (stop !)) (look ! 6 refl)) (no-more !)))))) (λ w₁.
-          use1 W (later (some (λ (r : ℕ). ((‵ (flft κ₁ q₁) ⊛ ‵ ftrue) ⊛ ‵ (usize .own r (w₁ ∷ []))) ⊛ raw (ensured 𝓤 H A write-ending.ended (write-ending.clauses 𝓤 H A mem run) (κ₁, tt) (to-end t) tt r)))) (id⊢ 𝓤 _) $ await ! tt $ pick ! (λ r.
-          split ! $ move ! (1 ∷ []) $ use1 W (some (λ (zs : Lasts write-ending.ended (κ₁, tt) (to-end t)). ‵ (lasts write-ending.ended (κ₁, tt) (to-end t) zs) ⊛ raw (fact 𝓤 (Laid (t .out) (t .place) (endLines (now-in xs out₀ t)) r (zs .0))))) (id⊢ 𝓤 _) $ pick ! (λ zs.
-          split ! $ move ! (1 ∷ []) $ heard ! (Laid (t .out) (t .place) (endLines (now-in xs out₀ t)) r (zs .0)) (λ said. fsplit ! $ fsplit ! $ move ! (1 ∷ []) $ feqL ! (λ len. move ! (2 ∷ []) $ split ! $ move ! (1 ∷ []) $ peeks ! usize (Is usize) (shows 𝓤 H A usize) r (w₁ ∷ []) (λ is₁. drop ! $
+          -- `say_ending`: the buffer is handed on
+          move ! (6 ∷ 5 ∷ []) $ use2 W (raw (SayEnding 𝓤 H A mem run .pre (to-say-ending t))) (goes-say-ending t (end-sayable xs small (now-in xs out₀ t) (at-end xs out₀ t o))) $
+          calls-at ! (fmOf 𝓤 H (W .laws) 𝓣) (SayEnding 𝓤 H A mem run) known-say-ending (to-say-ending t) (and-then ! (load ! (from ! (stop !)) (look ! 12 refl)) (and-then ! (load ! (from ! (stop !)) (look ! 42 refl)) (and-then ! (load ! (from ! (stop !)) (look ! 10 refl)) (and-then ! (load ! (from ! (stop !)) (look ! 8 refl)) (and-then ! (load ! (from ! (stop !)) (look ! 6 refl)) (no-more !)))))) (λ w₁.
+          use1 W (later (some (λ (r : ℕ). ((‵ (flft κ₁ q₁) ⊛ ‵ ftrue) ⊛ ‵ (usize .own r (w₁ ∷ []))) ⊛ raw (ensured 𝓤 H A say-ending.ended (say-ending.clauses 𝓤 H A mem run) (κ₁, tt) (to-end t) tt r)))) (id⊢ 𝓤 _) $ await ! tt $ pick ! (λ r.
+          split ! $ move ! (1 ∷ []) $ use1 W (some (λ (zs : Lasts say-ending.ended (κ₁, tt) (to-end t)). ‵ (lasts say-ending.ended (κ₁, tt) (to-end t) zs) ⊛ raw (fact 𝓤 (Said (t .out) (t .place) (endLines (now-in xs out₀ t)) r (zs .0))))) (id⊢ 𝓤 _) $ pick ! (λ zs.
+          split ! $ move ! (1 ∷ []) $ heard ! (Said (t .out) (t .place) (endLines (now-in xs out₀ t)) r (zs .0)) (λ said. fsplit ! $ fsplit ! $ move ! (1 ∷ []) $ feqL ! (λ len. move ! (2 ∷ []) $ split ! $ move ! (1 ∷ []) $ peeks ! usize (Is usize) (shows 𝓤 H A usize) r (w₁ ∷ []) (λ is₁. drop ! $
           split ! $ move ! (1 ∷ []) $ drop ! $ move ! (2 ∷ []) $ drop ! $
           -- [the token of out; the last out; words; slots; ledger; input; its token; the other locals]
           land ! (from ! (stop !)) (init ! 60 refl (uint-lawful 𝓤 H A W w64 .typed r _ is₁ .0)) $ rewrite ! 60 (λ (u : Val). ‵ (fat fullShare (tyInt w64) l₀ 0 u)) (ap only (is₁ .0)) refl $
           returns ! (look ! 60 refl) $ forget ! 7 refl $ forget ! 9 refl $ forget ! 11 refl $ forget ! 13 refl $ forget ! 15 refl $ forget ! 31 refl $ forget ! 33 refl $ forget ! 43 refl $ forget ! 45 refl $ forget ! 47 refl $ forget ! 4 refl $ forget ! 3 refl $ forget ! 2 refl $ forget ! 54 refl $ forget ! 56 refl $ forget ! 58 refl $ forget ! 60 refl $
           move ! (60 ∷ 61 ∷ []) $ free1 ! $ move ! (58 ∷ 59 ∷ []) $ free1 ! $ move ! (56 ∷ 57 ∷ []) $ free1 ! $ move ! (54 ∷ 55 ∷ []) $ free1 ! $ move ! (52 ∷ 53 ∷ []) $ free1 ! $ move ! (2 ∷ 51 ∷ []) $ free1 ! $ move ! (2 ∷ 49 ∷ []) $ free1 ! $ move ! (2 ∷ 47 ∷ []) $ free1 ! $ move ! (44 ∷ 45 ∷ []) $ free1 ! $ move ! (42 ∷ 43 ∷ []) $ free1 ! $ move ! (40 ∷ 41 ∷ []) $ free1 ! $ move ! (38 ∷ 39 ∷ []) $ free1 ! $ move ! (36 ∷ 37 ∷ []) $ free1 ! $ move ! (34 ∷ 35 ∷ []) $ free1 ! $ move ! (32 ∷ 33 ∷ []) $ free1 ! $ move ! (30 ∷ 31 ∷ []) $ free1 ! $ move ! (28 ∷ 29 ∷ []) $ free1 ! $ move ! (26 ∷ 27 ∷ []) $ free1 ! $ move ! (24 ∷ 25 ∷ []) $ free1 ! $ move ! (22 ∷ 23 ∷ []) $ free1 ! $ move ! (20 ∷ 21 ∷ []) $ free1 ! $ move ! (18 ∷ 19 ∷ []) $ free1 ! $ move ! (16 ∷ 17 ∷ []) $ free1 ! $ move ! (14 ∷ 15 ∷ []) $ free1 ! $ move ! (12 ∷ 13 ∷ []) $ free1 ! $ move ! (10 ∷ 11 ∷ []) $ free1 ! $ move ! (8 ∷ 9 ∷ []) $ free1 ! $ move ! (6 ∷ 7 ∷ []) $ free1 ! $ move ! (4 ∷ 5 ∷ []) $ free1 ! $ free0 ! $
-          keep ! (2 ∷ 3 ∷ 1 ∷ 0 ∷ []) $ by ! (exits r (zs .0) (is₁ .1) (laid-last (at-end xs out₀ t o) said) (len ∙ t .long))))))))
+          keep ! (2 ∷ 3 ∷ 1 ∷ 0 ∷ []) $ by ! (exits r (zs .0) (is₁ .1) (still-said (at-end xs out₀ t o) said (t .long)) (len ∙ t .long))))))))
         where
           o : length xs ≤ t .start
           o = ltb-false (t .start) (length xs) over
@@ -464,7 +464,7 @@ module _ {M : Type 1} (𝓤 : URA M) (H : Heap 𝓤) (A : Atoms 𝓤) (W : Given
       looped : (t : State xs out₀) → Sq W (At t) (runs C Λ En mir.t-9 (atRet En Post))
       looped t = first ! $ blocks ! $ loops ! 𝓣 (Nearer xs out₀) (Nearer-wf xs out₀) At (λ u. turn u (ltb (u .start) (length xs)) refl) t
 
-    walk : ent 𝓤 (onEntry 𝓤 H A write-report.signature (κ₀, (κ₁, tt)) (q₀, (q₁, tt)) a vals) (WpFn 𝓤 H C Λ code.function (s₀ ∷ s₁ ∷ []) Post)
+    walk : ent 𝓤 (onEntry 𝓤 H A say-report.signature (κ₀, (κ₁, tt)) (q₀, (q₁, tt)) a vals) (WpFn 𝓤 H C Λ code.function (s₀ ∷ s₁ ∷ []) Post)
     walk =
         qed W ((‵ (flft κ₀ q₀) ⊛ (‵ (flft κ₁ q₁) ⊛ ‵ ftrue)) ∷ ‵ (owns (ShrSlice (named 0) κ₀ u8 ∷ MutSlice (named 1) κ₁ u8 ∷ []) a vals) ∷ []) ∵ enter ! C Λ code.function (s₀ ∷ s₁ ∷ []) _ $
         alloc1 ! (λ l₀. alloc1 ! (λ l₁. alloc1 ! (λ l₂. alloc1 ! (λ l₃. alloc1 ! (λ l₄. alloc1 ! (λ l₅. alloc1 ! (λ l₆. alloc1 ! (λ l₇. alloc1 ! (λ l₈. alloc1 ! (λ l₉. alloc1 ! (λ l₁₀. alloc1 ! (λ l₁₁. alloc1 ! (λ l₁₂. alloc1 ! (λ l₁₃. alloc1 ! (λ l₁₄. alloc1 ! (λ l₁₅. alloc1 ! (λ l₁₆. alloc1 ! (λ l₁₇. alloc1 ! (λ l₁₈. alloc1 ! (λ l₁₉. alloc1 ! (λ l₂₀. alloc1 ! (λ l₂₁. alloc1 ! (λ l₂₂. alloc1 ! (λ l₂₃. alloc1 ! (λ l₂₄. alloc1 ! (λ l₂₅. alloc1 ! (λ l₂₆. alloc1 ! (λ l₂₇. alloc1 ! (λ l₂₈. alloc0 ! $ params1 ! $
@@ -481,31 +481,31 @@ module _ {M : Type 1} (𝓤 : URA M) (H : Heap 𝓤) (A : Atoms 𝓤) (W : Given
         assigns ! (of-opd ! (lit ! tt)) (from ! (stop !)) (init ! 42 refl (tt, record { fits = lit< tt })) $
         assigns ! (of-opd ! (lit ! tt)) (from ! (stop !)) (init ! 40 refl (tt, record { fits = lit< tt })) $
         forget ! 52 refl $ move ! (50 ∷ 48 ∷ 46 ∷ []) $
-        looped l₀ l₁ l₂ l₃ l₄ l₅ l₆ l₇ l₈ l₉ l₁₀ l₁₁ l₁₂ l₁₃ l₁₄ l₁₅ l₁₆ l₁₇ l₁₈ l₁₉ l₂₀ l₂₁ l₂₂ l₂₃ l₂₄ l₂₅ l₂₆ l₂₇ l₂₈ (begin xs out₀ small wide))))))))))))))))))))))))))))))
+        looped l₀ l₁ l₂ l₃ l₄ l₅ l₆ l₇ l₈ l₉ l₁₀ l₁₁ l₁₂ l₁₃ l₁₄ l₁₅ l₁₆ l₁₇ l₁₈ l₁₉ l₂₀ l₂₁ l₂₂ l₂₃ l₂₄ l₂₅ l₂₆ l₂₇ l₂₈ (begin xs out₀ wide))))))))))))))))))))))))))))))
 
 module _ {M : Type 1} (𝓤 : URA M) (H : Heap 𝓤) (A : Atoms 𝓤) (W : Given 𝓤 H A) (mem : Memory → SProp 𝓤) (run : Routine → Fun 𝓤) where
-  write-report-walks : (𝓣 : Tables 𝓤 H) → Triple 𝓤 (𝓣 .C #act) (OneAct 𝓤 H A mem run) → Triple 𝓤 (𝓣 .C #next-line) (NextLine 𝓤 H A mem run) → Triple 𝓤 (𝓣 .C #write-said) (WriteSaid 𝓤 H A mem run) → Triple 𝓤 (𝓣 .C #write-ending) (WriteEnding 𝓤 H A mem run)
-      → Walks 𝓤 H A write-report.ended stayed (WpFn 𝓤 H (𝓣 .C) (𝓣 .Λ) code.function) (write-report.clauses 𝓤 H A mem run)
-  write-report-walks 𝓣 k₁ k₂ k₃ k₄ = walked 𝓤 H A write-report.ended stayed (write-report.clauses 𝓤 H A mem run) (WpFn 𝓤 H (𝓣 .C) (𝓣 .Λ) code.function)
+  say-report-walks : (𝓣 : Tables 𝓤 H) → Triple 𝓤 (𝓣 .C #act) (OneAct 𝓤 H A mem run) → Triple 𝓤 (𝓣 .C #next-line) (NextLine 𝓤 H A mem run) → Triple 𝓤 (𝓣 .C #say-line) (SayLine 𝓤 H A mem run) → Triple 𝓤 (𝓣 .C #say-ending) (SayEnding 𝓤 H A mem run)
+      → Walks 𝓤 H A say-report.ended stayed (WpFn 𝓤 H (𝓣 .C) (𝓣 .Λ) code.function) (say-report.clauses 𝓤 H A mem run)
+  say-report-walks 𝓣 k₁ k₂ k₃ k₄ = walked 𝓤 H A say-report.ended stayed (say-report.clauses 𝓤 H A mem run) (WpFn 𝓤 H (𝓣 .C) (𝓣 .Λ) code.function)
       (λ κs. (slice-vals, (slice-vals, tt))) (λ κs. (shr-slice-tells (named 0) (κs .0) u8, (mut-slice-tells (named 1) (κs .1 .0) u8, tt)))
-      (λ κs qs bounds a _ are. needs 𝓤 ((length (a .0 .now) ≤ inputLimit) × (reportRoom (length (a .0 .now)) ≤ length (a .1 .0 .now))) _ (λ fits. walk 𝓤 H A W mem run (κs .0) (κs .1 .0) (qs .0) (qs .1 .0)
+      (λ κs qs bounds a _ are. needs 𝓤 ((length (a .0 .now) ≤ inputLimit) × (0 < length (a .1 .0 .now) → length (reportOf (a .0 .now)) ≤ length (a .1 .0 .now))) _ (λ fits. walk 𝓤 H A W mem run (κs .0) (κs .1 .0) (qs .0) (qs .1 .0)
       (a .0 .ptr .0) (a .0 .ptr .1) (a .0 .name) (a .0 .now) (a .1 .0 .ptr .0) (a .1 .0 .ptr .1) (a .1 .0 .name) (a .1 .0 .now) (are .0 .0 .1) (are .1 .0 .0 .1) (fits .0) (fits .1) 𝓣 k₁ k₂ k₃ k₄))
 
-  goes : AllGo 𝓤 H A W 2 (write-report.signature .params) (write-report.ended .kept) stayed
+  goes : AllGo 𝓤 H A W 2 (say-report.signature .params) (say-report.ended .kept) stayed
   goes = (goes-none-slice 𝓤 H A W 2 (0 ∷ []) tt (plain (λ _. u8)) yes, (goes-gave-slice 𝓤 H A W 2 1 tt (plain (λ _. u8)), tt))
 
-write-report-meets : {M : Type 1} (𝓤 : URA M) (H : Heap 𝓤) (A : Atoms 𝓤) → Given 𝓤 H A → (mem : Memory → SProp 𝓤) (run : Routine → Fun 𝓤) (𝓣 : Tables 𝓤 H) → Triple 𝓤 (𝓣 .C #act) (OneAct 𝓤 H A mem run) → Triple 𝓤 (𝓣 .C #next-line) (NextLine 𝓤 H A mem run) → Triple 𝓤 (𝓣 .C #write-said) (WriteSaid 𝓤 H A mem run) → Triple 𝓤 (𝓣 .C #write-ending) (WriteEnding 𝓤 H A mem run)
-    → Meets 𝓤 H A write-report.signature (WpFn 𝓤 H (𝓣 .C) (𝓣 .Λ) code.function) (write-report.spec 𝓤 H A mem run)
-write-report-meets 𝓤 H A W mem run 𝓣 k₁ k₂ k₃ k₄ = walk-meets 𝓤 H A write-report.ended stayed W (goes 𝓤 H A W mem run) (write-report.clauses 𝓤 H A mem run) (WpFn 𝓤 H (𝓣 .C) (𝓣 .Λ) code.function) (WpFn-mono 𝓤 H (W .laws) 𝓣 code.function)
-    (write-report-walks 𝓤 H A W mem run 𝓣 k₁ k₂ k₃ k₄)
+say-report-meets : {M : Type 1} (𝓤 : URA M) (H : Heap 𝓤) (A : Atoms 𝓤) → Given 𝓤 H A → (mem : Memory → SProp 𝓤) (run : Routine → Fun 𝓤) (𝓣 : Tables 𝓤 H) → Triple 𝓤 (𝓣 .C #act) (OneAct 𝓤 H A mem run) → Triple 𝓤 (𝓣 .C #next-line) (NextLine 𝓤 H A mem run) → Triple 𝓤 (𝓣 .C #say-line) (SayLine 𝓤 H A mem run) → Triple 𝓤 (𝓣 .C #say-ending) (SayEnding 𝓤 H A mem run)
+    → Meets 𝓤 H A say-report.signature (WpFn 𝓤 H (𝓣 .C) (𝓣 .Λ) code.function) (say-report.spec 𝓤 H A mem run)
+say-report-meets 𝓤 H A W mem run 𝓣 k₁ k₂ k₃ k₄ = walk-meets 𝓤 H A say-report.ended stayed W (goes 𝓤 H A W mem run) (say-report.clauses 𝓤 H A mem run) (WpFn 𝓤 H (𝓣 .C) (𝓣 .Λ) code.function) (WpFn-mono 𝓤 H (W .laws) 𝓣 code.function)
+    (say-report-walks 𝓤 H A W mem run 𝓣 k₁ k₂ k₃ k₄)
 
-pub write-report-spec : {M : Type 1} → stated.statement M
+pub say-report-spec : {M : Type 1} → stated.statement M
 unfolding code.routine tablesOf
-write-report-spec 𝓤 H 𝓜 𝓖 𝓡 =
-    entered 𝓤 H (tripleOf 𝓤 H (𝓖 .A) write-report.signature (write-report.spec 𝓤 H (𝓖 .A) (𝓜 .mem) (𝓡 .run)))
-    (tables 𝓤 H 𝓜 𝓡 code.env .C) (tables 𝓤 H 𝓜 𝓡 code.env .Λ) #write-report code.function (code.unfolded 𝓤 H 𝓜 𝓡)
-    (write-report-meets 𝓤 H (𝓖 .A) (givenOf 𝓤 H 𝓜 𝓖) (𝓜 .mem) (𝓡 .run) (tablesOf 𝓤 H 𝓜 (tables 𝓤 H 𝓜 𝓡 code.env))
+say-report-spec 𝓤 H 𝓜 𝓖 𝓡 =
+    entered 𝓤 H (tripleOf 𝓤 H (𝓖 .A) say-report.signature (say-report.spec 𝓤 H (𝓖 .A) (𝓜 .mem) (𝓡 .run)))
+    (tables 𝓤 H 𝓜 𝓡 code.env .C) (tables 𝓤 H 𝓜 𝓡 code.env .Λ) #say-report code.function (code.unfolded 𝓤 H 𝓜 𝓡)
+    (say-report-meets 𝓤 H (𝓖 .A) (givenOf 𝓤 H 𝓜 𝓖) (𝓜 .mem) (𝓡 .run) (tablesOf 𝓤 H 𝓜 (tables 𝓤 H 𝓜 𝓡 code.env))
     (cited 𝓤 H (OneAct 𝓤 H (𝓖 .A) (𝓜 .mem) (𝓡 .run)) 𝓜 𝓡 code.env #act act-def.routine code.calls-sites·act (act-thm.met 𝓤 H 𝓜 𝓖 𝓡))
     (cited 𝓤 H (NextLine 𝓤 H (𝓖 .A) (𝓜 .mem) (𝓡 .run)) 𝓜 𝓡 code.env #next-line next-line-def.routine code.calls-report·ahead·next-line (next-line-thm.met 𝓤 H 𝓜 𝓖 𝓡))
-    (cited 𝓤 H (WriteSaid 𝓤 H (𝓖 .A) (𝓜 .mem) (𝓡 .run)) 𝓜 𝓡 code.env #write-said write-said-def.routine code.calls-report·said·write-said (write-said-thm.met 𝓤 H 𝓜 𝓖 𝓡))
-    (cited 𝓤 H (WriteEnding 𝓤 H (𝓖 .A) (𝓜 .mem) (𝓡 .run)) 𝓜 𝓡 code.env #write-ending write-ending-def.routine code.calls-report·ends·write-ending (write-ending-thm.met 𝓤 H 𝓜 𝓖 𝓡)))
+    (cited 𝓤 H (SayLine 𝓤 H (𝓖 .A) (𝓜 .mem) (𝓡 .run)) 𝓜 𝓡 code.env #say-line say-line-def.routine code.calls-report·said·say-line (say-line-thm.met 𝓤 H 𝓜 𝓖 𝓡))
+    (cited 𝓤 H (SayEnding 𝓤 H (𝓖 .A) (𝓜 .mem) (𝓡 .run)) 𝓜 𝓡 code.env #say-ending say-ending-def.routine code.calls-report·ends·say-ending (say-ending-thm.met 𝓤 H 𝓜 𝓖 𝓡)))
