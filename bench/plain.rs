@@ -232,7 +232,7 @@ pub fn report(input: &[u8]) -> Vec<u8> {
     }
     writeln!(out, "waiting={}", k.waiting()).unwrap();
     for (i, site) in k.sites.iter().enumerate() {
-        writeln!(out, "node={i} shown={}", site.len()).unwrap();
+        writeln!(out, "node={i} held={} shown={}", site.len(), site.values().filter(|n| *n % 2 == 1).count()).unwrap();
     }
     out
 }

@@ -203,8 +203,8 @@ size_t wg_write_line(uint64_t kind, uint64_t first, uint64_t second, uint64_t id
 
 /* Runs a text of step lines, each ended by byte 10, from a fresh state with 3 sites, capacity 8 and 8 slots, and writes the report to the
  * front of out: a line for each refused step (`line=L refused=R`) and each accepted query
- * (`line=L node=N id=I length=K present=P`), then sent, copied, absorbed, lost and waiting, then `node=N shown=S` for each site, S the
- * number of entries in its table. *written is how many bytes that is; bytes behind it keep what they had.
+ * (`line=L node=N id=I length=K present=P`), then sent, copied, absorbed, lost and waiting, then `node=N held=H shown=S` for each site:
+ * H entries in its table, S of them listed. *written is how many bytes that is; bytes behind it keep what they had.
  *
  * A line that is no step line, an empty one, and a last piece without its byte 10 stand in the report as refused with 11.
  * Refuses in this order: 12 exactly when n is above 32,768; 13 exactly when room is below the length of this very report. Nothing is written

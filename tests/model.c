@@ -41,6 +41,14 @@ static uint64_t length_of(const struct set *s, uint64_t id) {
 
 static bool odd(uint64_t n) { return n % 2 == 1; }
 
+/* "an entry with an even length is not on offer" */
+static size_t on_offer(const struct set *s) {
+    size_t k, n = 0;
+    for (k = 0; k < s->count; k++)
+        if (odd(s->length[k])) n++;
+    return n;
+}
+
 /* ---- a table in words ---- */
 
 /* "Entries in use come first, ids strictly rising, lengths 1 to M; every word after them is 0." */
@@ -426,7 +434,7 @@ static void run_text(const uint8_t *input, size_t n) {
         state.ledger.sent, state.ledger.copied, state.ledger.absorbed, state.ledger.lost, waiting(state.slots, 8));
     for (k = 0; k < 3; k++) {
         unpack(state.words + k * 16, 8, &joined);
-        SAY("node=%zu shown=%zu\n", k, joined.count);
+        SAY("node=%zu held=%zu shown=%zu\n", k, joined.count, on_offer(&joined));
     }
 }
 

@@ -129,7 +129,7 @@ def report(text):
         out.append("line=%d refused=11" % (len(lines) + 1))
     out += ["%s=%d" % count for count in run.counts.items()]
     out.append("waiting=%d" % sum(slot is not None for slot in run.slots))
-    out += ["node=%d shown=%d" % (k, len(table)) for k, table in enumerate(run.tables)]
+    out += ["node=%d held=%d shown=%d" % (k, len(table), sum(n % 2 for n in table.values())) for k, table in enumerate(run.tables)]
     return ("\n".join(out) + "\n").encode()
 
 

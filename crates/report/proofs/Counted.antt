@@ -3,21 +3,20 @@
 use Prim.Native.Nat.{ℕ, suc, _+_, _*_, _-_, _≤_, _<_}
 use native.Mathlib.Omega.{arith}
 use native.Mathlib.Numerals.{add-one}
-use mathlib.Core.Path.{_≡_, refl, sym, ap, _∙_}
+use mathlib.Core.Path.{_≡_, refl, ap, _∙_}
 use mathlib.Core.Bool.{Bool, cond}
-use mathlib.Core.List.{List, [], _∷_, _++_, append-assoc}
+use mathlib.Core.List.{List, [], _∷_, _++_}
 use lib.ListN.{length, take, drop, getD}
 use lib.Seq.{drop-cons, drop-length}
 use Rattle.rules.specs.declared.Parcel.{Parcel}
 use Rattle.rules.specs.meaning.Lengths.{M}
 use Rattle.rules.specs.meaning.Parcels.{isFree, noParcel, waiting}
-use Rattle.rules.specs.meaning.Table.{held}
+use Rattle.rules.specs.meaning.Table.{held, shown}
 use Rattle.rules.specs.meaning.States.{State, tableAt, StateSound}
 use Rattle.rules.specs.laws.run.Tables.{words-long}
 use Rattle.rules.specs.laws.run.Sites.{tables-at}
 use Rattle.rules.specs.meaning.Text.{ascii}
-use Rattle.rules.specs.meaning.Number.{digits}
-use Rattle.rules.specs.meaning.Reports.{reportRun, lineEnd, countLine, ledgerLines, siteLine, siteLines, endLines}
+use Rattle.rules.specs.meaning.Reports.{reportRun, countLine, ledgerLines, siteLine, siteLines, endLines}
 use Rattle.report.specs.Tables.{ThreeTables}
 use Rattle.report.proofs.Words.{pair}
 
@@ -38,31 +37,28 @@ sites-suc : (n k : ℕ) (ws : List ℕ) → siteLines (suc n) k ws ≡ siteLine 
 unfolding siteLines
 sites-suc n k ws = refl
 
-regroup : (a b d e f rest : List ℕ) → (a ++ (b ++ (d ++ (e ++ f)))) ++ rest ≡ (a ++ b) ++ ((d ++ (e ++ f)) ++ rest)
-regroup a b d e f rest = simp append-assoc
+-- the words of a site as the code takes them
+abbrev pub partOf : List ℕ → ℕ → List ℕ
+partOf ws k = take (k * 16 + 16 - k * 16) (drop (k * 16) ws)
 
-site-pieces : (k h : ℕ) (t rest : List ℕ) → h ≡ held t → siteLine k t ++ rest ≡ pair (ascii "node=") k ++ (countLine (ascii " shown=") h ++ rest)
-unfolding siteLine
-site-pieces k h t rest e =
-    regroup (ascii "node=") (digits k) (ascii " shown=") (digits (held t)) (lineEnd ∷ []) rest
-    ∙ ap (λ (j : ℕ). pair (ascii "node=") k ++ (countLine (ascii " shown=") j ++ rest)) (sym e)
+pub part-is : (ws : List ℕ) (k : ℕ) → partOf ws k ≡ tableAt reportRun ws k
+unfolding tableAt
+part-is ws k = let e : k * 16 + 16 - k * 16 ≡ 16 = omega arith in rw e
 
-pub sites-from : (k h : ℕ) (ws : List ℕ) → k < 3 → h ≡ held (tableAt reportRun ws k)
-    → siteLines (3 - k) k ws ≡ pair (ascii "node=") k ++ (countLine (ascii " shown=") h ++ siteLines (3 - (k + 1)) (k + 1) ws)
-sites-from k h ws l e =
+pub sites-from : (k : ℕ) (ws : List ℕ) → k < 3 → siteLines (3 - k) k ws ≡ siteLine k (partOf ws k) ++ siteLines (3 - (k + 1)) (k + 1) ws
+sites-from k ws l =
     let n : 3 - k ≡ suc (3 - (k + 1)) = omega arith in
     ap (λ (j : ℕ). siteLines j k ws) n ∙ sites-suc (3 - (k + 1)) k ws
-    ∙ ap (λ (j : ℕ). siteLine k (tableAt reportRun ws k) ++ siteLines (3 - (k + 1)) j ws) (sym (add-one k))
-    ∙ site-pieces k h (tableAt reportRun ws k) (siteLines (3 - (k + 1)) (k + 1) ws) e
+    ∙ rw (part-is ws k, add-one k)
 
 pub sites-end : (k : ℕ) (ws : List ℕ) → 3 ≤ k → siteLines (3 - k) k ws ≡ []
 unfolding siteLines
 sites-end k ws l = let n : 3 - k ≡ 0 = omega arith in rw n
 
--- ---- a site's part of the words
-pub part-is : (ws : List ℕ) (k : ℕ) → take (k * 16 + 16 - k * 16) (drop (k * 16) ws) ≡ tableAt reportRun ws k
-unfolding tableAt
-part-is ws k = let e : k * 16 + 16 - k * 16 ≡ 16 = omega arith in rw e
+-- ---- the line of a site by its three pieces
+pub site-pieces : (k h n : ℕ) (t : List ℕ) → h ≡ held t → n ≡ shown t → siteLine k t ≡ pair (ascii "node=") k ++ (pair (ascii " held=") h ++ countLine (ascii " shown=") n)
+unfolding siteLine
+site-pieces k h n t e f = rw (e, f)
 
 -- ---- a sound run has three sound tables
 pub three-tables : (s : State) → StateSound reportRun s → ThreeTables (s .words)

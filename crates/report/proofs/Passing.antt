@@ -16,7 +16,7 @@ use Rattle.rules.specs.meaning.Runs.{after}
 use Rattle.rules.specs.meaning.Put.{put}
 use Rattle.rules.specs.meaning.StepLines.{stepOf}
 use Rattle.rules.specs.meaning.Calls.{namedAfter}
-use Rattle.rules.specs.meaning.Reports.{reportRun, reportStart, lineEnd, inputLimit, refusedLine, endLines, lineBy, saidOf, reportFrom, reportOf}
+use Rattle.rules.specs.meaning.Reports.{reportRun, reportStart, lineEnd, inputLimit, endRoom, refusedLine, endLines, lineBy, saidOf, reportFrom, reportOf}
 use Rattle.rules.specs.laws.report.Fits.{report-done, report-starts, report-fits}
 use Rattle.rules.specs.laws.report.Parts.{end-within}
 use Rattle.rules.specs.laws.report.Places.{report-line-at, report-byte-at, report-unended-at, start-sound, state-sound}
@@ -160,6 +160,6 @@ passed-end input first out s n start place p over =
     let at : start ≡ length input = omega (arith, p .inside) in
     still-as (rw (at, drop-length input) (report-done n s)) (p .left)
 
-pub end-sayable : {out : List ℕ} {place : ℕ} {wanted : List ℕ} (input : List ℕ) → length input ≤ inputLimit → (s : State) → Still out place (endLines s) (0 + length (reportOf input)) wanted → Sayable 187 out place (endLines s)
+pub end-sayable : {out : List ℕ} {place : ℕ} {wanted : List ℕ} (input : List ℕ) → length input ≤ inputLimit → (s : State) → Still out place (endLines s) (0 + length (reportOf input)) wanted → Sayable endRoom out place (endLines s)
 end-sayable input small s l =
-    still-sayable 187 (endLines s) [] (still-as (sym (append-nil (endLines s))) l) (end-within s) (omega (arith, report-fits input small))
+    still-sayable endRoom (endLines s) [] (still-as (sym (append-nil (endLines s))) l) (end-within s) (omega (arith, report-fits input small))

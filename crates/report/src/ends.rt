@@ -4,13 +4,16 @@ use crate::pieces::write_pair;
 use parcels::is_free;
 use rules::Ledger;
 use rules::Parcel;
+use rules::ROOM_BESIDES;
 use table::held;
+use table::shown;
 ghost use Prim.Native.Nat.{_+_, _≤_};
 ghost use mathlib.Core.Path.{_≡_};
 ghost use lib.ListN.{length};
+ghost use Rattle.rules.specs.meaning.Table.{SoundTable};
 ghost use Rattle.rules.specs.meaning.Parcels.{waiting};
 ghost use Rattle.rules.specs.meaning.States.{lent, StateSound};
-ghost use Rattle.rules.specs.meaning.Reports.{reportRun, ledgerLines, siteLine, siteLines, endLines};
+ghost use Rattle.rules.specs.meaning.Reports.{reportRun, ledgerLines, siteLine, siteLines, endLines, endRoom};
 ghost use Rattle.report.specs.Laid.{Laid};
 ghost use Rattle.report.specs.Said.{Sayable, Said};
 ghost use Rattle.report.specs.Tables.{ThreeTables};
@@ -43,7 +46,19 @@ fn write_ledger(out: &mut [u8], place: usize, ledger: Ledger, waiting: u64) -> u
     write_count(out, e, b"waiting=", waiting)
 }
 
-// "for each site `shown`: the number of entries in its table"
+// "From now on the site line is `node=N held=H shown=S`"
+fn write_site(out: &mut [u8], place: usize, site: usize, table: &[u64]) -> usize
+    requires { ⌜ SoundTable (now table) ⌝ }
+    requires { ⌜ place + length (siteLine site (now table)) ≤ length (now out) ⌝ }
+    ensures { λ r. ⌜ Laid (now (out .entry)) place (siteLine site (now (table .entry))) r (now (out .exit)) ⌝ }
+{
+    let entries = held(table) as u64;
+    let listed = shown(table) as u64;
+    let a = write_pair(out, place, b"node=", site as u64);
+    let b = write_pair(out, a, b" held=", entries);
+    write_count(out, b, b" shown=", listed)
+}
+
 fn write_sites(out: &mut [u8], place: usize, words: &[u64]) -> usize
     requires { ⌜ ThreeTables (now words) ⌝ }
     requires { ⌜ place + length (siteLines 3 0 (now words)) ≤ length (now out) ⌝ }
@@ -52,9 +67,7 @@ fn write_sites(out: &mut [u8], place: usize, words: &[u64]) -> usize
     let mut next = place;
     let mut k: usize = 0;
     while k < 3 {
-        let entries = held(&words[k * 16..k * 16 + 16]);
-        next = write_pair(out, next, b"node=", k as u64);
-        next = write_count(out, next, b" shown=", entries as u64);
+        next = write_site(out, next, k, &words[k * 16..k * 16 + 16]);
         k += 1;
     }
     next
@@ -74,7 +87,7 @@ fn write_ending(
     write_sites(out, next, &words)
 }
 
-// The same; but into an empty buffer nothing is written, and the ending is measured where no one sees it. None is longer than 187 bytes.
+// The same; but into an empty buffer nothing is written, and the ending is measured where no one sees it.
 pub(crate) fn say_ending(
     out: &mut [u8],
     place: usize,
@@ -82,13 +95,13 @@ pub(crate) fn say_ending(
     slots: [Parcel; 8],
     ledger: Ledger,
 ) -> usize
-    requires { ⌜ StateSound reportRun (lent words slots ledger) × Sayable 187 (now out) place (endLines (lent words slots ledger)) ⌝ }
+    requires { ⌜ StateSound reportRun (lent words slots ledger) × Sayable endRoom (now out) place (endLines (lent words slots ledger)) ⌝ }
     ensures { λ r. ⌜ Said (now (out .entry)) place (endLines (lent words slots ledger)) r (now (out .exit)) ⌝ }
 {
     if out.len() > 0 {
         return write_ending(out, place, words, slots, ledger);
     }
-    let mut aside = [0u8; 187];
+    let mut aside = [0u8; ROOM_BESIDES];
     let long = write_ending(&mut aside, 0, words, slots, ledger);
     place + long
 }

@@ -6,7 +6,7 @@ use mathlib.Core.Bool.{true, _&&_, cond}
 use mathlib.Core.Path.{_≡_}
 use mathlib.Core.List.{List, _∷_, _++_}
 use lib.ListN.{length, getD}
-use lib.Dec.{eqb}
+use lib.Dec.{eqb, ltb}
 use Rattle.rules.specs.declared.Run.{Run}
 use Rattle.rules.specs.declared.Answer.{Answer}
 use Rattle.rules.specs.declared.Reported.{Reported}
@@ -15,8 +15,8 @@ use Rattle.rules.specs.declared.Step.the-variants.{Add, Remove, Query, M
 use Rattle.rules.specs.declared.Line.the-variants.{Numbers}
 use Rattle.rules.specs.declared.Named.{Named}
 use Rattle.rules.specs.declared.Named.the-variants.{Is}
-use Rattle.rules.specs.meaning.Lengths.{listed, afterAdd, afterRemove, join}
-use Rattle.rules.specs.meaning.Table.{lengthOf, rises}
+use Rattle.rules.specs.meaning.Lengths.{M, listed, afterAdd, afterRemove, join}
+use Rattle.rules.specs.meaning.Table.{SoundTable, lengthOf, held, shown, countBelow, rises}
 use Rattle.rules.specs.meaning.Parcels.{waiting}
 use Rattle.rules.specs.meaning.Kinds.{isSend, isAgain, isDeliver, isLose}
 use Rattle.rules.specs.meaning.States.{State, tableAt, sightOf, parcelAt}
@@ -30,6 +30,7 @@ use Rattle.rules.specs.meaning.Bursts.{asksOf, stepsIn, Handled}
 use Rattle.rules.specs.meaning.Members.{Answered}
 use Rattle.rules.specs.meaning.Writing.{Filled}
 use Rattle.rules.specs.meaning.Reports.{Told, Printed}
+use Rattle.rules.specs.laws.table.Counts as Counts
 use Rattle.rules.specs.laws.run.Steps as Steps
 use Rattle.rules.specs.laws.history.Figure4 as Figure4
 use Rattle.rules.specs.laws.history.Rising as Rising
@@ -86,6 +87,12 @@ module _ (run : Run) (s : State) where
 pub members-are-listed : (t ids before after : List ℕ) → Answered t ids before 0 after → (i : ℕ) → i < length ids
     → getD after (i / 8) 0 / 2 ^ (i % 8) % 2 ≡ cond (listed (lengthOf t (getD ids i 0))) 1 0
 members-are-listed = Members.answered-bits
+
+-- "held counts entries and shown counts those with odd length": of the ids below any bound that a sound table has none beyond, `held` is how many have a
+-- length and `shown` how many are listed
+pub shown-means-listed : (t : List ℕ) → SoundTable t → (b : ℕ) → ((x : ℕ) → b ≤ x → lengthOf t x ≡ 0)
+    → (held t ≡ countBelow (λ (x : ℕ). ltb 0 (lengthOf t x)) b) × (shown t ≡ countBelow (λ (x : ℕ). listed (lengthOf t x)) b)
+shown-means-listed t s b none = (Counts.held-counts M t s b none, Counts.shown-counts M t s b none)
 
 -- "A step line written is read back as the same step": by the step, and by the four numbers
 pub written-is-read : (step : Step) → Fits step → stepOf (lineOf step) ≡ Is step

@@ -6,7 +6,7 @@ pub const M: u64 = 4294967295;
 // The most bytes of input that a report is made of.
 pub const INPUT_MAX: usize = 32768;
 
-// The room that every report of so many bytes fits: 22 for each, and 256 more.
+// The room that every report of so many bytes fits: 22 for each, and 256 for what stands at its end.
 pub const ROOM_BY_BYTE: usize = 22;
 
 pub const ROOM_BESIDES: usize = 256;

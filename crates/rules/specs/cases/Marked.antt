@@ -5,12 +5,12 @@ use Prim.Native.Nat.{ℕ}
 use mathlib.Core.Bool.{Bool, true, false, _&&_, not}
 use mathlib.Core.Path.{_≡_, refl}
 use mathlib.Core.List.{List, [], _∷_}
-use lib.Dec.{eqb}
+use lib.Dec.{eqb, ltb}
 use Rattle.rules.specs.declared.Found.{Found}
 use Rattle.rules.specs.declared.Found.the-variants.{At, Absent}
 use Rattle.rules.specs.declared.Answer.{Answer}
 use Rattle.rules.specs.meaning.Lengths.{M, listed, afterAdd, afterRemove, join}
-use Rattle.rules.specs.meaning.Table.{unused, soundFrom, sound, lengthOf, held, shown, rank, foundOf, push, withLength, raised, heldWith, merged, newIds, rises}
+use Rattle.rules.specs.meaning.Table.{unused, soundFrom, sound, lengthOf, held, shown, countBelow, rank, foundOf, push, withLength, raised, heldWith, merged, newIds, rises}
 use Rattle.rules.specs.declared.Run.{Run}
 use Rattle.rules.specs.declared.Parcel.{Parcel}
 use Rattle.rules.specs.declared.Ledger.{Ledger}
@@ -155,6 +155,7 @@ cases =
     ∷ not (sound M (seven 0)) ∷ not (sound M (0 ∷ 0 ∷ 7 ∷ 2 ∷ [])) ∷ not (sound M (7 ∷ 1 ∷ 0 ∷ [])) ∷ not (sound M (0 ∷ []))
     -- what a table says
     ∷ eqb (held seven-nine) 2 ∷ eqb (shown seven-nine) 1 ∷ eqb (shown seven-eight) 2
+    ∷ eqb (countBelow (λ (x : ℕ). ltb 0 (lengthOf seven-nine x)) 10) 2 ∷ eqb (countBelow (λ (x : ℕ). listed (lengthOf seven-nine x)) 10) 1
     ∷ isAt (foundOf seven-nine 7) 0 ∷ isAt (foundOf seven-nine 9) 1 ∷ not (isAt (foundOf seven-nine 8) 1)
     ∷ eqb (rises (seven 1) (seven 1)) 0 ∷ eqb (rises (seven 1) (seven 2)) 1
     -- P10 in a run: a delivery refused with 8 leaves its parcel waiting; one of an id that is held is accepted, counted, and frees its slot
@@ -186,5 +187,5 @@ cases =
     ∷ []
 
 pub cases-hold : all cases ≡ true
-unfolding cases listed afterAdd afterRemove unused soundFrom lengthOf held shown rank push withLength raised heldWith merged newIds rises raiseRefusal raiseAnswer raiseTable removedLength removeRefusal removeTable mergeRefusal mergeAnswer mergeTable isFree isOccupied slotsSound waiting lowestFree cleared ledgerSound oneMore raisedIf tableAt withTable sizesRight tablesSound allSound slotOf numbers firstGiven refusalIn effect refusalOf valueOf after freshRefusal afterFresh put bitsOf bytesOf answersOf membersRefusal membersAfter
+unfolding cases listed afterAdd afterRemove unused soundFrom lengthOf held shown countBelow rank push withLength raised heldWith merged newIds rises raiseRefusal raiseAnswer raiseTable removedLength removeRefusal removeTable mergeRefusal mergeAnswer mergeTable isFree isOccupied slotsSound waiting lowestFree cleared ledgerSound oneMore raisedIf tableAt withTable sizesRight tablesSound allSound slotOf numbers firstGiven refusalIn effect refusalOf valueOf after freshRefusal afterFresh put bitsOf bytesOf answersOf membersRefusal membersAfter
 cases-hold = refl

@@ -1,4 +1,4 @@
--- The sample of document 01, byte for byte, and how lines, pieces and limits are counted, computed from the definitions as they stand.
+-- The sample of document 01 with the site lines of request 1, byte for byte, and how lines, pieces and limits are counted, computed from the definitions as they stand.
 -- Assumes nothing.
 use Prim.Native.Nat.{ℕ, _≤_, _<_}
 use native.Mathlib.Omega.{arith}
@@ -9,7 +9,7 @@ use lib.ListN.{length}
 use lib.Dec.{ltb}
 use borrow.Author.Tests.{lt-ltb, le-ltb}
 use Rattle.rules.specs.meaning.Lengths.{listed, afterAdd, afterRemove}
-use Rattle.rules.specs.meaning.Table.{unused, soundFrom, lengthOf, held, push, withLength, raised, heldWith, merged, newIds, rises}
+use Rattle.rules.specs.meaning.Table.{unused, soundFrom, lengthOf, held, shown, push, withLength, raised, heldWith, merged, newIds, rises}
 use Rattle.rules.specs.meaning.Operations.{raiseRefusal, raiseTable, removeRefusal, removeTable, mergeRefusal, mergeTable}
 use Rattle.rules.specs.meaning.Parcels.{isFree, isOccupied, slotsSound, waiting, lowestFree}
 use Rattle.rules.specs.meaning.Ledgers.{ledgerSound, oneMore, raisedIf}
@@ -29,7 +29,7 @@ use Rattle.rules.specs.laws.report.Pieces.{unbroken, joined, allUnbroken
 use Rattle.rules.specs.laws.report.Steps.{linesOf, fits, allFit, steps-fit, stepsFrom, report-of-steps}
 use Rattle.rules.specs.cases.Sample.{sampleSteps}
 
--- the input of document 01's sample, and its whole output
+-- the input of document 01's sample, and its whole output; its last three lines are those of request 1
 abbrev pub sampleInput : List ℕ
 sampleInput =
     ascii "step=add node=0 id=7\nstep=add node=1 id=7\nstep=send from=1 to=2 id=7\nstep=deliver slot=0\n"
@@ -40,7 +40,7 @@ sampleInput =
 abbrev pub sampleOutput : List ℕ
 sampleOutput =
     ascii "line=13 refused=5\nline=16 node=1 id=7 length=3 present=1\nline=17 node=2 id=7 length=4 present=0\n"
-    ++ ascii "sent=2\ncopied=1\nabsorbed=2\nlost=1\nwaiting=0\nnode=0 shown=1\nnode=1 shown=1\nnode=2 shown=1\n"
+    ++ ascii "sent=2\ncopied=1\nabsorbed=2\nlost=1\nwaiting=0\nnode=0 held=1 shown=0\nnode=1 held=1 shown=1\nnode=2 held=1 shown=0\n"
 
 -- the input is the lines of the sample's steps
 sample-lines : linesOf sampleSteps ≡ sampleInput
@@ -53,7 +53,7 @@ sample-fits = refl
 
 -- what those steps say
 sample-said : stepsFrom 1 reportStart sampleSteps ≡ sampleOutput
-unfolding stepsFrom listed afterAdd afterRemove unused soundFrom lengthOf held push withLength raised heldWith merged newIds rises raiseRefusal raiseTable removeRefusal removeTable mergeRefusal mergeTable isFree isOccupied slotsSound waiting lowestFree ledgerSound oneMore raisedIf tableAt withTable sizesRight tablesSound allSound slotOf numbers firstGiven refusalIn effect refusalOf valueOf after digits upTo refusedLine queryLine ledgerLines siteLine siteLines endLines acceptedLine saidOf
+unfolding stepsFrom listed afterAdd afterRemove unused soundFrom lengthOf held shown push withLength raised heldWith merged newIds rises raiseRefusal raiseTable removeRefusal removeTable mergeRefusal mergeTable isFree isOccupied slotsSound waiting lowestFree ledgerSound oneMore raisedIf tableAt withTable sizesRight tablesSound allSound slotOf numbers firstGiven refusalIn effect refusalOf valueOf after digits upTo refusedLine queryLine ledgerLines siteLine siteLines endLines acceptedLine saidOf
 sample-said = refl
 
 -- "Whole output": the report of the sample's input is the sample's output, byte for byte
@@ -62,7 +62,7 @@ sample-report = ap reportOf (sym sample-lines) ∙ report-of-steps sampleSteps (
 
 -- what every report of a run that no step changed ends with
 abbrev pub emptyEnd : List ℕ
-emptyEnd = ascii "sent=0\ncopied=0\nabsorbed=0\nlost=0\nwaiting=0\nnode=0 shown=0\nnode=1 shown=0\nnode=2 shown=0\n"
+emptyEnd = ascii "sent=0\ncopied=0\nabsorbed=0\nlost=0\nwaiting=0\nnode=0 held=0 shown=0\nnode=1 held=0 shown=0\nnode=2 held=0 shown=0\n"
 
 -- ---- how lines and pieces are counted, and the ends of reports. Each row is computed over its pieces: taken byte by byte, the
 -- work of the checker about doubles with every byte
@@ -80,14 +80,14 @@ pub record ReportCases : Type 0 where
   -- a line that names no step is counted, and the run goes on from the state before it
   pub between : reportOf (ascii "step=add node=0 id=7\nstep=add node=00 id=8\nstep=query node=0 id=7\n")
       ≡ ascii "line=2 refused=11\nline=3 node=0 id=7 length=1 present=1\n"
-      ++ ascii "sent=0\ncopied=0\nabsorbed=0\nlost=0\nwaiting=0\nnode=0 shown=1\nnode=1 shown=0\nnode=2 shown=0\n"
+      ++ ascii "sent=0\ncopied=0\nabsorbed=0\nlost=0\nwaiting=0\nnode=0 held=1 shown=1\nnode=1 held=0 shown=0\nnode=2 held=0 shown=0\n"
   -- a refused query says its refusal alone, and a parcel that waits is counted
   pub waits : reportOf (ascii "step=add node=0 id=7\nstep=send from=0 to=1 id=7\nstep=query node=3 id=0\n")
       ≡ ascii "line=3 refused=3\n"
-      ++ ascii "sent=1\ncopied=0\nabsorbed=0\nlost=0\nwaiting=1\nnode=0 shown=1\nnode=1 shown=0\nnode=2 shown=0\n"
+      ++ ascii "sent=1\ncopied=0\nabsorbed=0\nlost=0\nwaiting=1\nnode=0 held=1 shown=1\nnode=1 held=0 shown=0\nnode=2 held=0 shown=0\n"
 
 pub report-cases : ReportCases
-unfolding unbroken joined allUnbroken piecesFrom listed afterAdd afterRemove unused soundFrom lengthOf held push withLength raised heldWith merged newIds rises raiseRefusal raiseTable removeRefusal removeTable mergeRefusal mergeTable isFree isOccupied slotsSound waiting lowestFree ledgerSound oneMore raisedIf tableAt withTable sizesRight tablesSound allSound slotOf numbers firstGiven refusalIn effect refusalOf valueOf after behind upTo digits digitOf digitRun fair judged readNumber lead namesStep firstOf kindOf readField numbersOf stepFor stepIn stepOf refusedLine queryLine ledgerLines siteLine siteLines endLines acceptedLine saidOf namedAfter lastPiece
+unfolding unbroken joined allUnbroken piecesFrom listed afterAdd afterRemove unused soundFrom lengthOf held shown push withLength raised heldWith merged newIds rises raiseRefusal raiseTable removeRefusal removeTable mergeRefusal mergeTable isFree isOccupied slotsSound waiting lowestFree ledgerSound oneMore raisedIf tableAt withTable sizesRight tablesSound allSound slotOf numbers firstGiven refusalIn effect refusalOf valueOf after behind upTo digits digitOf digitRun fair judged readNumber lead namesStep firstOf kindOf readField numbersOf stepFor stepIn stepOf refusedLine queryLine ledgerLines siteLine siteLines endLines acceptedLine saidOf namedAfter lastPiece
 report-cases = record {
   nothing = report-of-pieces [] [] refl refl;
   empty-line = report-of-pieces ([] ∷ []) [] refl refl;
@@ -98,7 +98,7 @@ report-cases = record {
   waits = report-of-pieces (ascii "step=add node=0 id=7" ∷ ascii "step=send from=0 to=1 id=7" ∷ ascii "step=query node=3 id=0" ∷ []) [] refl refl;
 }
 
--- ---- the limits: 32,768 bytes are run and 32,769 are not, whatever the room; 721,152 bytes hold every report; the empty input's has 89
+-- ---- the limits: 32,768 bytes are run and 32,769 are not, whatever the room; 721,152 bytes hold every report; the empty input's has 110
 pub longest : (input : List ℕ) → length input ≡ 32768 → reportRefusal input 721152 ≡ 0
 longest input h = room-taken input 721152 (omega (arith, h)) (omega (arith, h))
 
@@ -106,11 +106,11 @@ pub too-long : (input : List ℕ) (room : ℕ) → length input ≡ 32769 → re
 too-long input room h = report-over input room (omega (arith, h))
 
 pub record LimitCases : Type 0 where
-  pub just-fits : reportRefusal [] 89 ≡ 0
-  pub a-byte-short : reportRefusal [] 88 ≡ 13
+  pub just-fits : reportRefusal [] 110 ≡ 0
+  pub a-byte-short : reportRefusal [] 109 ≡ 13
 
 pub limit-cases : LimitCases
-unfolding firstGiven reportRefusal reportOf reportFrom lastPiece endLines ledgerLines siteLines siteLine digits upTo waiting isFree held tableAt
+unfolding firstGiven reportRefusal reportOf reportFrom lastPiece endLines ledgerLines siteLines siteLine digits upTo waiting isFree listed held shown tableAt
 limit-cases = record { just-fits = refl; a-byte-short = refl }
 
 -- "An input over 32,768 bytes prints only `refused=12`", as a line

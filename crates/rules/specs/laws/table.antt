@@ -2,6 +2,7 @@
 pub mod Order
 pub mod View
 pub mod Law
+pub mod Counts
 pub mod Update
 pub mod Places
 pub mod Insert

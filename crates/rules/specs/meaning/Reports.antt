@@ -13,7 +13,7 @@ use Rattle.rules.specs.declared.Named.{Named}
 use Rattle.rules.specs.declared.Named.the-variants.{Is, NoStep}
 use Rattle.rules.specs.declared.Reported.{Reported}
 use Rattle.rules.specs.meaning.Lengths.{listed}
-use Rattle.rules.specs.meaning.Table.{held}
+use Rattle.rules.specs.meaning.Table.{held, shown}
 use Rattle.rules.specs.meaning.Parcels.{noParcel, waiting}
 use Rattle.rules.specs.meaning.Ledgers.{emptyLedger}
 use Rattle.rules.specs.meaning.States.{State, lent, tableAt}
@@ -60,9 +60,10 @@ ledgerLines l w =
     ++ (countLine (ascii "lost=") (l .lost)
     ++ countLine (ascii "waiting=") w)))
 
--- "for each site `shown`: the number of entries in its table"
+-- "held counts entries and shown counts those with odd length". Document 01 has entries for `shown`, "and that was wrong": a site desk read `shown=1`
+-- where the only episode had been withdrawn, and "an entry with an even length is not on offer"
 unfoldable pub siteLine : ℕ → List ℕ → List ℕ
-siteLine k t = ascii "node=" ++ (digits k ++ (ascii " shown=" ++ (digits (held t) ++ (lineEnd ∷ []))))
+siteLine k t = ascii "node=" ++ (digits k ++ (ascii " held=" ++ (digits (held t) ++ (ascii " shown=" ++ (digits (shown t) ++ (lineEnd ∷ []))))))
 
 -- n sites, from site k on
 unfoldable pub siteLines : ℕ → ℕ → List ℕ → List ℕ
@@ -105,9 +106,13 @@ reportOf input = reportFrom 1 reportStart [] input
 abbrev pub inputLimit : ℕ
 inputLimit = 32768
 
+-- room that the end of every report fits
+abbrev pub endRoom : ℕ
+endRoom = 256
+
 -- room that the report of so many bytes always fits: an empty line is one byte of input and at most 22 of the report, and no other byte earns more
 abbrev pub reportRoom : ℕ → ℕ
-reportRoom n = 22 * n + 256
+reportRoom n = 22 * n + endRoom
 
 -- 13 exactly where the buffer has no room for the report of this input
 unfoldable pub reportRefusal : List ℕ → ℕ → ℕ

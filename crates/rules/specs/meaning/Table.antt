@@ -63,11 +63,16 @@ held (w ∷ []) = 0
 held (e ∷ zero ∷ t) = 0
 held (e ∷ suc n ∷ t) = suc (held t)
 
--- how many entries are listed
+-- how many of them are listed: "an entry with an even length is not on offer", and an unused place has length 0
 unfoldable pub shown : List ℕ → ℕ
 shown [] = 0
 shown (w ∷ []) = 0
 shown (e ∷ n ∷ t) = cond (listed n) (suc (shown t)) (shown t)
+
+-- how many numbers below a bound pass a test
+unfoldable pub countBelow : (ℕ → Bool) → ℕ → ℕ
+countBelow test zero = 0
+countBelow test (suc b) = cond (test b) (suc (countBelow test b)) (countBelow test b)
 
 -- how many entries in use have an id below x: the place where x stands, or would
 unfoldable pub rank : List ℕ → ℕ → ℕ

@@ -1,66 +1,66 @@
 -- `report::ends::write_sites`. Invariant: the lines of the sites from k on are what is left. Assumes nothing.
 use native.Mathlib.Omega.{arith}
-use mathlib.Core.Path.{_≡_, refl, ap, _∙_}
-use mathlib.Core.List.{_++_}
-use Prim.Native.Nat.{_+_, _-_, _≤_}
+use mathlib.Core.Path.{_≡_, refl}
+use mathlib.Core.List.{List, _++_}
+use Prim.Native.Nat.{ℕ, _+_, _-_, _≤_}
 use lib.ListN.{length}
 use denote.Ref.{now}
-use Rattle.rules.specs.meaning.Table.{held}
 use Rattle.rules.specs.meaning.Put.{put}
-use Rattle.rules.specs.meaning.Text.{ascii}
-use Rattle.rules.specs.meaning.Reports.{countLine, siteLines}
+use Rattle.rules.specs.meaning.Reports.{siteLine, siteLines}
 use Rattle.report.specs.Tables.{ThreeTables}
 use Rattle.report.proofs.Left.{Left, left-all, left-room, left-next, left-as, laid-none}
-use Rattle.report.proofs.Words.{pair}
-use Rattle.report.proofs.Counted.{sites-from, sites-end, part-is}
-use borrow.Author.Needs.{needs}
+use Rattle.report.proofs.Counted.{partOf, part-is, sites-from, sites-end}
 use Rattle.report.proofs.ends.write_sites.Statement.{statement}
 use Rattle.report.proofs.ends.write_sites.Tie as tie
 
 abbrev Inv-loop : tie.InvT-loop
-Inv-loop out₀ place words next₀ k₀ t7 t8 out next k = (k ≤ 3) × (length out ≡ length out₀) × ThreeTables words × Left out next (siteLines (3 - k) k words) (place + length (siteLines 3 0 words)) (put out₀ place (siteLines 3 0 words))
+Inv-loop out₀ place words next₀ k₀ out next k = (k ≤ 3) × (length out ≡ length out₀) × ThreeTables words × Left out next (siteLines (3 - k) k words) (place + length (siteLines 3 0 words)) (put out₀ place (siteLines 3 0 words))
 
 abbrev μ-loop : tie.MeasureT-loop
-μ-loop out₀ place words next₀ k₀ t7 t8 out next k = 3 - k
+μ-loop out₀ place words next₀ k₀ out next k = 3 - k
+
+-- ---- the lines that are left, in a turn of the loop: this site's, and the others
+module _ (c : tie.In-loop Inv-loop μ-loop) where
+  abbrev words : List ℕ
+  words = now (c .before .before .before .before .args .words)
+
+  abbrev line : List ℕ
+  line = siteLine (c .before .loop .k) (partOf words (c .before .loop .k))
+
+  abbrev others : List ℕ
+  others = siteLines (3 - (c .before .loop .k + 1)) (c .before .loop .k + 1) words
+
+  left-here : let s = c .before .before .before .before .args in let l = c .before .loop in
+      Left (l .out) (l .next) (line ++ others) (s .place + length (siteLines 3 0 words)) (put (now (s .out)) (s .place) (siteLines 3 0 words))
+  left-here = left-as (sites-from (c .before .loop .k) words (c .loop-test .taken)) (c .before .loop .inv .3)
 
 loop-holds : tie.Need-loop-holds Inv-loop μ-loop
 loop-holds c = (omega arith, refl, c .before .before .pre .0, left-all (now (c .before .before .args .out)) (c .before .before .args .place) (siteLines 3 0 (now (c .before .before .args .words))) (c .before .before .pre .1))
 
-mul-held : tie.Need-mul-held Inv-loop μ-loop
-mul-held c = omega arith
+mul-write-site : tie.Need-mul-write-site Inv-loop μ-loop
+mul-write-site c = omega arith
 
-mul-held-2 : tie.Need-mul-held-2 Inv-loop μ-loop
-mul-held-2 c = omega arith
+mul-write-site-2 : tie.Need-mul-write-site-2 Inv-loop μ-loop
+mul-write-site-2 c = omega arith
 
-add-held : tie.Need-add-held Inv-loop μ-loop
-add-held c = omega arith
+add-write-site : tie.Need-add-write-site Inv-loop μ-loop
+add-write-site c = omega arith
 
-mul-held-3 : tie.Need-mul-held-3 Inv-loop μ-loop
-mul-held-3 c = omega arith
+mul-write-site-3 : tie.Need-mul-write-site-3 Inv-loop μ-loop
+mul-write-site-3 c = omega arith
 
-sub-held : tie.Need-sub-held Inv-loop μ-loop
-sub-held c = omega arith
+sub-write-site : tie.Need-sub-write-site Inv-loop μ-loop
+sub-write-site c = omega arith
 
-part-held-start : tie.Need-part-held-start Inv-loop μ-loop
-part-held-start c = omega (arith, c .before .loop .inv .2 .count)
+part-write-site-start : tie.Need-part-write-site-start Inv-loop μ-loop
+part-write-site-start c = omega (arith, c .before .before .loop .inv .2 .count)
 
-part-held-end : tie.Need-part-held-end Inv-loop μ-loop
-part-held-end c = omega (arith, c .before .loop .inv .2 .count)
+part-write-site-end : tie.Need-part-write-site-end Inv-loop μ-loop
+part-write-site-end c = omega (arith, c .before .before .loop .inv .2 .count)
 
-held-requires : tie.Need-held-requires Inv-loop μ-loop
-held-requires c κs = rw (part-is (now (c .before .before .before .before .before .args .words)) (c .before .before .loop .k)) (c .before .before .loop .inv .2 .sound (c .before .before .loop .k) (c .before .loop-test .taken))
-
-slice-aggregate-write-pair : tie.Need-slice-aggregate-write-pair Inv-loop μ-loop
-slice-aggregate-write-pair c = search needs
-
-write-pair-requires : tie.Need-write-pair-requires Inv-loop μ-loop
-write-pair-requires c κs = left-room (pair (ascii "node=") (c .before .before .before .before .before .loop .k)) (countLine (ascii " shown=") (c .before .before .held .result) ++ siteLines (3 - (c .before .before .before .before .before .loop .k + 1)) (c .before .before .before .before .before .loop .k + 1) (now (c .before .before .before .before .before .before .before .before .args .words))) (left-as (sites-from (c .before .before .before .before .before .loop .k) (c .before .before .held .result) (now (c .before .before .before .before .before .before .before .before .args .words)) (c .before .before .before .before .loop-test .taken) (c .before .before .held .ensures ∙ ap held (part-is (now (c .before .before .before .before .before .before .before .before .args .words)) (c .before .before .before .before .before .loop .k)))) (c .before .before .before .before .before .loop .inv .3))
-
-slice-aggregate-write-count : tie.Need-slice-aggregate-write-count Inv-loop μ-loop
-slice-aggregate-write-count c = search needs
-
-write-count-requires : tie.Need-write-count-requires Inv-loop μ-loop
-write-count-requires c κs = left-room (countLine (ascii " shown=") (c .before .before .before .before .before .before .before .held .result)) (siteLines (3 - (c .before .before .before .before .before .before .before .before .before .before .loop .k + 1)) (c .before .before .before .before .before .before .before .before .before .before .loop .k + 1) (now (c .before .before .before .before .before .before .before .before .before .before .before .before .before .args .words))) (left-next (pair (ascii "node=") (c .before .before .before .before .before .before .before .before .before .before .loop .k)) (countLine (ascii " shown=") (c .before .before .before .before .before .before .before .held .result) ++ siteLines (3 - (c .before .before .before .before .before .before .before .before .before .before .loop .k + 1)) (c .before .before .before .before .before .before .before .before .before .before .loop .k + 1) (now (c .before .before .before .before .before .before .before .before .before .before .before .before .before .args .words))) (left-as (sites-from (c .before .before .before .before .before .before .before .before .before .before .loop .k) (c .before .before .before .before .before .before .before .held .result) (now (c .before .before .before .before .before .before .before .before .before .before .before .before .before .args .words)) (c .before .before .before .before .before .before .before .before .before .loop-test .taken) (c .before .before .before .before .before .before .before .held .ensures ∙ ap held (part-is (now (c .before .before .before .before .before .before .before .before .before .before .before .before .before .args .words)) (c .before .before .before .before .before .before .before .before .before .before .loop .k)))) (c .before .before .before .before .before .before .before .before .before .before .loop .inv .3)) (c .before .before .before .before .write-pair .ensures))
+write-site-requires : tie.Need-write-site-requires Inv-loop μ-loop
+write-site-requires c κs = let t = c .before .before in let l = t .before .loop in
+    (rw (part-is (words t) (l .k)) (l .inv .2 .sound (l .k) (t .loop-test .taken)), left-room (line t) (others t) (left-here t))
 
 add-k : tie.Need-add-k Inv-loop μ-loop
 add-k c = omega arith
@@ -69,7 +69,8 @@ loop-less : tie.Need-loop-less Inv-loop μ-loop
 loop-less c = omega arith
 
 loop-again : tie.Need-loop-again Inv-loop μ-loop
-loop-again c = (omega arith, omega (arith, c .before .before .write-count .kept .0, c .before .before .before .before .before .before .before .write-pair .kept .0, c .before .before .before .before .before .before .before .before .before .before .before .before .before .loop .inv .1), c .before .before .before .before .before .before .before .before .before .before .before .before .before .loop .inv .2, left-next (countLine (ascii " shown=") (c .before .before .before .before .before .before .before .before .before .before .held .result)) (siteLines (3 - (c .before .before .before .before .before .before .before .before .before .before .before .before .before .loop .k + 1)) (c .before .before .before .before .before .before .before .before .before .before .before .before .before .loop .k + 1) (now (c .before .before .before .before .before .before .before .before .before .before .before .before .before .before .before .before .args .words))) (left-next (pair (ascii "node=") (c .before .before .before .before .before .before .before .before .before .before .before .before .before .loop .k)) (countLine (ascii " shown=") (c .before .before .before .before .before .before .before .before .before .before .held .result) ++ siteLines (3 - (c .before .before .before .before .before .before .before .before .before .before .before .before .before .loop .k + 1)) (c .before .before .before .before .before .before .before .before .before .before .before .before .before .loop .k + 1) (now (c .before .before .before .before .before .before .before .before .before .before .before .before .before .before .before .before .args .words))) (left-as (sites-from (c .before .before .before .before .before .before .before .before .before .before .before .before .before .loop .k) (c .before .before .before .before .before .before .before .before .before .before .held .result) (now (c .before .before .before .before .before .before .before .before .before .before .before .before .before .before .before .before .args .words)) (c .before .before .before .before .before .before .before .before .before .before .before .before .loop-test .taken) (c .before .before .before .before .before .before .before .before .before .before .held .ensures ∙ ap held (part-is (now (c .before .before .before .before .before .before .before .before .before .before .before .before .before .before .before .before .args .words)) (c .before .before .before .before .before .before .before .before .before .before .before .before .before .loop .k)))) (c .before .before .before .before .before .before .before .before .before .before .before .before .before .loop .inv .3)) (c .before .before .before .before .before .before .before .write-pair .ensures)) (c .before .before .write-count .ensures))
+loop-again c = let w = c .before .before in let t = w .before .before .before in let l = t .before .loop in
+    (omega arith, omega (arith, w .write-site .kept .0, l .inv .1), l .inv .2, left-next (line t) (others t) (left-here t) (w .write-site .ensures))
 
 same-length : tie.Need-same-length Inv-loop μ-loop
 same-length c = c .before .loop .inv .1
@@ -84,18 +85,14 @@ write-sites-spec =
     Inv-loop
     μ-loop
     loop-holds
-    mul-held
-    mul-held-2
-    add-held
-    mul-held-3
-    sub-held
-    part-held-start
-    part-held-end
-    held-requires
-    slice-aggregate-write-pair
-    write-pair-requires
-    slice-aggregate-write-count
-    write-count-requires
+    mul-write-site
+    mul-write-site-2
+    add-write-site
+    mul-write-site-3
+    sub-write-site
+    part-write-site-start
+    part-write-site-end
+    write-site-requires
     add-k
     loop-less
     loop-again

@@ -57,7 +57,7 @@ use Rattle.rules.specs.meaning.Parcels.{noParcel}
 use Rattle.rules.specs.meaning.Put.{put}
 use Rattle.rules.specs.meaning.States.{State as Whole, lent}
 use Rattle.rules.specs.meaning.Acts.{Clear, Acted}
-use Rattle.rules.specs.meaning.Reports.{reportRun, inputLimit, lineBy, endLines, reportOf}
+use Rattle.rules.specs.meaning.Reports.{reportRun, inputLimit, endRoom, lineBy, endLines, reportOf}
 use Rattle.report.specs.declared.ahead.Ahead.{Ahead}
 use Rattle.report.specs.Ahead.{Next}
 use Rattle.report.specs.Said.{Sayable, Said}
@@ -315,7 +315,7 @@ module _ {M : Type 1} (𝓤 : URA M) (H : Heap 𝓤) (A : Atoms 𝓤) (W : Given
   abbrev to-say-ending : State xs out₀ → SayEnding 𝓤 H A mem run .Ghost
   to-say-ending t = (((κ₁, tt), (q₁, tt), tt, to-end t, (s₁ ∷ [], (vint w64 (t .place) ∷ [], (t .words-at ∷ [], (t .slots-at ∷ [], (ledger-val (t .ledger) ∷ [], tt)))))), tt)
 
-  goes-say-ending : (t : State xs out₀) → Sayable 187 (t .out) (t .place) (endLines (now-in xs out₀ t)) → ent 𝓤 (sep 𝓤 (A .lft κ₁ q₁) (sem 𝓤 H A (own-out (t .out)))) (SayEnding 𝓤 H A mem run .pre (to-say-ending t))
+  goes-say-ending : (t : State xs out₀) → Sayable endRoom (t .out) (t .place) (endLines (now-in xs out₀ t)) → ent 𝓤 (sep 𝓤 (A .lft κ₁ q₁) (sem 𝓤 H A (own-out (t .out)))) (SayEnding 𝓤 H A mem run .pre (to-say-ending t))
   goes-say-ending t enough =
       qed W (‵ (flft κ₁ q₁) ∷ ‵ (own-out (t .out)) ∷ []) ∵ says ! (t .passed .sound, enough) $ nothing ! $ move ! (1 ∷ 0 ∷ []) $ join ! $
       nothing ! $ holds ! T.the-type T′.the-plain (t .ledger) _ (t .is-ledger) $ fjoin ! $

@@ -20,7 +20,7 @@ use Rattle.rules.specs.meaning.Lines.{lead, field, textOf}
 use Rattle.rules.specs.meaning.StepLines.{lineOf, stepOf}
 use Rattle.rules.specs.laws.line.Steps.{read-step}
 use Rattle.rules.specs.meaning.Calls.{namedAfter}
-use Rattle.rules.specs.meaning.Reports.{reportRun, reportStart, lineEnd, refusedLine, endLines, acceptedLine, lineBy, saidOf, lastPiece, reportFrom, reportOf, inputLimit, reportRoom, reportRefusal, reportFor, queryLine}
+use Rattle.rules.specs.meaning.Reports.{reportRun, reportStart, lineEnd, refusedLine, endLines, acceptedLine, lineBy, saidOf, lastPiece, reportFrom, reportOf, inputLimit, endRoom, reportRoom, reportRefusal, reportFor, queryLine}
 use Rattle.rules.specs.laws.report.Parts.{refusal-within, refused-within, query-within, end-within}
 
 -- ---- how a report goes on, by the next byte of the input
@@ -87,17 +87,17 @@ last-within n [] p = omega arith
 last-within n (c ∷ cs) p = let a = refused-within n 11 p (omega arith) in omega arith
 
 -- the report from line n on: 22 bytes for each byte of the line so far and of the input behind it, and the end
-pub report-within : (n : ℕ) (s : State) (line input : List ℕ) → n + length input < 100000 → length (reportFrom n s line input) ≤ 22 * (length line + length input) + 187
+pub report-within : (n : ℕ) (s : State) (line input : List ℕ) → n + length input < 100000 → length (reportFrom n s line input) ≤ 22 * (length line + length input) + endRoom
 unfolding reportFrom
 report-within n s line [] p = simp (length-append) (omega (arith, last-within n line (omega arith), end-within s))
 report-within n s line (c ∷ cs) p =
     by-test (eqb c lineEnd)
     (λ ends.
     let said : length (saidOf n s (stepOf line)) ≤ 22 * (length line + 1) = said-within n s line (omega arith) in
-    let rest : length (reportFrom (suc n) (namedAfter reportRun s (stepOf line)) [] cs) ≤ 22 * (0 + length cs) + 187 = report-within (suc n) (namedAfter reportRun s (stepOf line)) [] cs (omega arith) in
+    let rest : length (reportFrom (suc n) (namedAfter reportRun s (stepOf line)) [] cs) ≤ 22 * (0 + length cs) + endRoom = report-within (suc n) (namedAfter reportRun s (stepOf line)) [] cs (omega arith) in
     rw (ends, length-append) (omega arith))
     (λ more.
-    let rest : length (reportFrom n s (line ++ (c ∷ [])) cs) ≤ 22 * (length (line ++ (c ∷ [])) + length cs) + 187 = report-within n s (line ++ (c ∷ [])) cs (omega arith) in
+    let rest : length (reportFrom n s (line ++ (c ∷ [])) cs) ≤ 22 * (length (line ++ (c ∷ [])) + length cs) + endRoom = report-within n s (line ++ (c ∷ [])) cs (omega arith) in
     let long : length (line ++ (c ∷ [])) ≡ length line + 1 = length-append line (c ∷ []) in
     rw more (omega arith))
 

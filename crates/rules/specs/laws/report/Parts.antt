@@ -10,7 +10,7 @@ use Rattle.rules.specs.declared.Run.{Run}
 use Rattle.rules.specs.declared.Ledger.{Ledger}
 use Rattle.rules.specs.declared.Step.{Step}
 use Rattle.rules.specs.meaning.Lengths.{listed}
-use Rattle.rules.specs.meaning.Table.{held}
+use Rattle.rules.specs.meaning.Table.{held, shown}
 use Rattle.rules.specs.meaning.Parcels.{waiting}
 use Rattle.rules.specs.meaning.Refusals.{Test, _when_, firstGiven}
 use Rattle.rules.specs.meaning.States.{State, width, tableAt}
@@ -18,8 +18,8 @@ use Rattle.rules.specs.meaning.Runs.{effectOf, refusalIn, refusalOf}
 use Rattle.rules.specs.meaning.Number.{digits}
 use Rattle.rules.specs.laws.run.Owed.{given-numbered}
 use Rattle.rules.specs.laws.run.Rows.{owed}
-use Rattle.rules.specs.laws.line.Numbers.{below, one-digit, more-digits, digits-length}
-use Rattle.rules.specs.meaning.Reports.{reportRun, refusedLine, queryLine, ledgerLines, siteLine, siteLines, endLines}
+use Rattle.rules.specs.laws.line.Numbers.{below, by-test, one-digit, more-digits, digits-length}
+use Rattle.rules.specs.meaning.Reports.{reportRun, refusedLine, queryLine, ledgerLines, siteLine, siteLines, endLines, endRoom}
 
 -- ---- a number below 10 ^ k has at most k digits
 pub digits-within : (k n : ℕ) → n < 10 ^ suc k → n < 2 ^ 64 → length (digits n) ≤ suc k
@@ -74,39 +74,45 @@ unfolding ledgerLines
 ledger-within l w =
     simp (length-append) (omega (arith, digits-length (l .sent), digits-length (l .copied), digits-length (l .absorbed), digits-length (l .lost), digits-length w))
 
--- a table has no more entries than words
-held-within : (t : List ℕ) → held t ≤ length t
+-- a table has at most one entry for two words, and shows no more
+held-within : (t : List ℕ) → 2 * held t ≤ length t
 unfolding held
 held-within [] = omega arith
 held-within (w ∷ []) = omega arith
 held-within (e ∷ zero ∷ t) = omega arith
 held-within (e ∷ suc n ∷ t) = let h = held-within t in omega arith
 
+shown-within : (t : List ℕ) → 2 * shown t ≤ length t
+unfolding shown
+shown-within [] = omega arith
+shown-within (w ∷ []) = omega arith
+shown-within (e ∷ n ∷ t) = by-test (listed n) (λ odd. rw odd (let h = shown-within t in omega arith)) (λ even. rw even (let h = shown-within t in omega arith))
+
 -- a site's table has at most 16 words, whatever the words are
 table-within : (ws : List ℕ) (k : ℕ) → length (tableAt reportRun ws k) ≤ 16
 unfolding tableAt
 table-within ws k = rw (length-take (width reportRun) (drop (k * width reportRun) ws)) (omega arith)
 
--- the line of a site: 13 bytes around a site number and a count of at most 2 digits
-site-within : (k : ℕ) (ws : List ℕ) → k < 10 → length (siteLine k (tableAt reportRun ws k)) ≤ 16
+-- the line of a site: 19 bytes around a site number and two counts, each of one digit
+site-within : (k : ℕ) (ws : List ℕ) → k < 10 → length (siteLine k (tableAt reportRun ws k)) ≤ 22
 unfolding siteLine
 site-within k ws p =
     let t = tableAt reportRun ws k in
-    let h : held t < 100 = omega (arith, held-within t, table-within ws k) in
-    let a : length (digits (held t)) ≤ 2 = digits-within 1 (held t) (omega arith) (omega arith) in
-    simp (length-append) (omega (arith, one-digit k p))
+    let h : held t < 10 = omega (arith, held-within t, table-within ws k) in
+    let l : shown t < 10 = omega (arith, shown-within t, table-within ws k) in
+    simp (length-append) (omega (arith, one-digit k p, one-digit (held t) h, one-digit (shown t) l))
 
-sites-within : (n k : ℕ) (ws : List ℕ) → k + n ≤ 10 → length (siteLines n k ws) ≤ 16 * n
+sites-within : (n k : ℕ) (ws : List ℕ) → k + n ≤ 10 → length (siteLines n k ws) ≤ 22 * n
 unfolding siteLines
 sites-within zero k ws p = omega arith
 sites-within (suc n) k ws p =
-    let rest : length (siteLines n (suc k) ws) ≤ 16 * n = sites-within n (suc k) ws (omega arith) in
-    let one : length (siteLine k (tableAt reportRun ws k)) ≤ 16 = site-within k ws (omega arith) in
+    let rest : length (siteLines n (suc k) ws) ≤ 22 * n = sites-within n (suc k) ws (omega arith) in
+    let one : length (siteLine k (tableAt reportRun ws k)) ≤ 22 = site-within k ws (omega arith) in
     simp (length-append) (omega arith)
 
--- the end of a report: the ledger and the sites
-pub end-within : (s : State) → length (endLines s) ≤ 187
+-- the end of a report: the ledger and the sites, 205 bytes at most
+pub end-within : (s : State) → length (endLines s) ≤ endRoom
 unfolding endLines
 end-within s =
-    let a : length (siteLines 3 0 (s .words)) ≤ 16 * 3 = sites-within 3 0 (s .words) (omega arith) in
+    let a : length (siteLines 3 0 (s .words)) ≤ 22 * 3 = sites-within 3 0 (s .words) (omega arith) in
     simp (length-append) (omega (arith, ledger-within (s .ledger) (waiting (s .slots))))
