@@ -1,5 +1,5 @@
--- What the whole guarantees: the page to open first. Each theorem here is one sentence of the three demands, said of the very definitions that
--- the contracts cite, and proved in the module that its last line names. Nothing else stands here.
+-- What the whole guarantees: the page to open first. Each theorem here is one sentence of the three demands or of a request, said of the very
+-- definitions that the contracts cite, and proved in the module that its last line names. Nothing else stands here.
 -- Assumes nothing.
 use Prim.Native.Nat.{ℕ, suc, _+_, _*_, _/_, _%_, _^_, _≤_, _<_}
 use mathlib.Core.Bool.{true, _&&_, cond}

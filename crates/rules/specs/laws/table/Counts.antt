@@ -31,20 +31,23 @@ cond-more false m n q = q
 
 count-more : (f g : ℕ → Bool) (e b : ℕ) → e < b → f e ≡ true → g e ≡ false → ((x : ℕ) → (e ≡ x → ⊥) → f x ≡ g x) → countBelow f b ≡ suc (countBelow g b)
 unfolding countBelow
-count-more f g e zero p passes fails other = absurd (omega arith)
-count-more f g e (suc b) p passes fails other = go (side e b) (λ l. count-more f g e b l passes fails other)
+count-more f g e zero p hf hg other = absurd (omega arith)
+count-more f g e (suc b) p hf hg other = go (side e b) (λ l. count-more f g e b l hf hg other)
   where
     go : Side e b → (e < b → countBelow f b ≡ suc (countBelow g b))
         → cond (f b) (suc (countBelow f b)) (countBelow f b) ≡ suc (cond (g b) (suc (countBelow g b)) (countBelow g b))
     go (below l) ih = rw (other b (omega arith)) (cond-more (g b) (countBelow f b) (countBelow g b) (ih l))
-    go (same q) ih = rw (← q, passes, fails, count-same f g e (λ x l. other x (omega arith)))
+    go (same q) ih = rw (← q, hf, hg, count-same f g e (λ x l. other x (omega arith)))
     go (above l) ih = absurd (omega arith)
 
 -- ---- a count of entries by a test of their lengths is the count of ids by the same test
 module _ (test : ℕ → Bool) (none-fails : test 0 ≡ false) where
-  -- the ids that pass it, below a bound
+  -- whether an id passes it, and how many do below a bound
+  abbrev passes : List ℕ → ℕ → Bool
+  passes t x = test (lengthOf t x)
+
   abbrev passing : List ℕ → ℕ → ℕ
-  passing t b = countBelow (λ (x : ℕ). test (lengthOf t x)) b
+  passing t b = countBelow (passes t) b
 
   -- one entry in front of a table whose ids are above its own
   module _ {most : ℕ} (e n : ℕ) (t : List ℕ) (s : Sound most (suc e) t) (b : ℕ) (beyond : (x : ℕ) → b ≤ x → lengthOf (e ∷ suc n ∷ t) x ≡ 0) where
@@ -59,28 +62,27 @@ module _ (test : ℕ → Bool) (none-fails : test 0 ≡ false) where
     beyond-rest : (x : ℕ) → b ≤ x → lengthOf t x ≡ 0
     beyond-rest x p = sym (of-other e (suc n) t x (omega (arith, inside))) ∙ beyond x p
 
-    absent : test (lengthOf t e) ≡ false
+    absent : passes t e ≡ false
     absent = rw (of-below s e (omega arith)) none-fails
 
-    other : (x : ℕ) → (e ≡ x → ⊥) → test (lengthOf (e ∷ suc n ∷ t) x) ≡ test (lengthOf t x)
+    other : (x : ℕ) → (e ≡ x → ⊥) → passes (e ∷ suc n ∷ t) x ≡ passes t x
     other x d = rw (of-other e (suc n) t x d)
 
-    entry-passes : (v : Bool) → test (suc n) ≡ v → cond v (suc (passing t b)) (passing t b) ≡ passing (e ∷ suc n ∷ t) b
-    entry-passes true passes =
-        sym (count-more (λ (x : ℕ). test (lengthOf (e ∷ suc n ∷ t) x)) (λ (x : ℕ). test (lengthOf t x)) e b inside (rw (of-same e (suc n) t) passes) absent other)
-    entry-passes false fails = sym (count-same (λ (x : ℕ). test (lengthOf (e ∷ suc n ∷ t) x)) (λ (x : ℕ). test (lengthOf t x)) b (λ x l. go x (side e x)))
+    one-passes : (v : Bool) → test (suc n) ≡ v → cond v (suc (passing t b)) (passing t b) ≡ passing (e ∷ suc n ∷ t) b
+    one-passes true h = sym (count-more (passes (e ∷ suc n ∷ t)) (passes t) e b inside (rw (of-same e (suc n) t) h) absent other)
+    one-passes false h = sym (count-same (passes (e ∷ suc n ∷ t)) (passes t) b (λ x l. go x (side e x)))
       where
-        go : (x : ℕ) → Side e x → test (lengthOf (e ∷ suc n ∷ t) x) ≡ test (lengthOf t x)
+        go : (x : ℕ) → Side e x → passes (e ∷ suc n ∷ t) x ≡ passes t x
         go x (below p) = other x (omega arith)
-        go x (same p) = rw (← p) (rw (of-same e (suc n) t) fails ∙ sym absent)
+        go x (same p) = rw (← p) (rw (of-same e (suc n) t) h ∙ sym absent)
         go x (above p) = other x (omega arith)
 
   module _ (count : List ℕ → ℕ) (ended : (t : List ℕ) → Unused t → count t ≡ 0)
       (entry : (e n : ℕ) (t : List ℕ) → count (e ∷ suc n ∷ t) ≡ cond (test (suc n)) (suc (count t)) (count t)) where
     counted : {most lo : ℕ} {t : List ℕ} → Sound most lo t → (b : ℕ) → ((x : ℕ) → b ≤ x → lengthOf t x ≡ 0) → count t ≡ passing t b
-    counted (rest {t = t} z) b beyond = ended t z ∙ sym (count-none (λ (x : ℕ). test (lengthOf t x)) b (λ x. rw (of-unused z x) none-fails))
+    counted (rest {t = t} z) b beyond = ended t z ∙ sym (count-none (passes t) b (λ x. rw (of-unused z x) none-fails))
     counted (used {e = e} {n = n} {t = t} l m s) b beyond =
-        entry e n t ∙ rw (counted s b (beyond-rest e n t s b beyond)) (entry-passes e n t s b beyond (test (suc n)) refl)
+        entry e n t ∙ rw (counted s b (beyond-rest e n t s b beyond)) (one-passes e n t s b beyond (test (suc n)) refl)
 
 held-ended : (t : List ℕ) → Unused t → held t ≡ 0
 unfolding held
