@@ -24,11 +24,11 @@ unfolding countBelow
 count-same f g zero h = refl
 count-same f g (suc b) h = rw (h b (omega arith), count-same f g b (λ x p. h x (omega arith)))
 
--- a test that differs from another at one number counts one more
 cond-more : (v : Bool) (m n : ℕ) → m ≡ suc n → cond v (suc m) m ≡ suc (cond v (suc n) n)
 cond-more true m n q = rw q
 cond-more false m n q = q
 
+-- a test that holds at one number more, and is the same elsewhere, counts one more
 count-more : (f g : ℕ → Bool) (e b : ℕ) → e < b → f e ≡ true → g e ≡ false → ((x : ℕ) → (e ≡ x → ⊥) → f x ≡ g x) → countBelow f b ≡ suc (countBelow g b)
 unfolding countBelow
 count-more f g e zero p hf hg other = absurd (omega arith)
