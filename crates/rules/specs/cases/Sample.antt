@@ -20,17 +20,17 @@ use Rattle.rules.specs.meaning.Ledgers.{ledgerSound, emptyLedger, oneMor
 use Rattle.rules.specs.meaning.Refusals.{firstGiven}
 use Rattle.rules.specs.meaning.Kinds.{slotOf, isSend, isAgain, isDeliver, isLose, numbers}
 use Rattle.rules.specs.meaning.States.{State, lent, tableAt, withTable, sizesRight, tablesSound, allSound}
-use Rattle.rules.specs.meaning.Steps.{Pair, entriesOf, siteIn, idsOf, effect}
+use Rattle.rules.specs.meaning.Steps.{Entry, entriesOf, siteIn, idsOf, effect}
 use Rattle.rules.specs.meaning.Runs.{refusalIn, refusalOf, valueOf, answerOf, after, freshRefusal, afterFresh}
 use Rattle.rules.specs.meaning.Histories.{ran, acceptedOf, absorbedIn, absorbed, largest, occurs, within, samePairs, offeredIn, offered, among, distinct}
 use Rattle.rules.specs.cases.Marked.{all, same, ledger-of, parcel, same-ledger}
 
 -- a pair of an id and a length
-abbrev pub pair : ℕ → ℕ → Pair
+abbrev pub pair : ℕ → ℕ → Entry
 pair e n = record { id = e; length = n }
 
 -- two lists of pairs are the same, in order
-abbrev pub same-pairs : List Pair → List Pair → Bool
+abbrev pub same-pairs : List Entry → List Entry → Bool
 same-pairs [] [] = true
 same-pairs [] (q ∷ qs) = false
 same-pairs (p ∷ ps) [] = false
@@ -62,13 +62,13 @@ abbrev pub sampleEnd : State
 sampleEnd = ran sampleRun sampleStart sampleSteps
 
 -- what each site absorbs, in order
-abbrev pub absorbed0 : List Pair
+abbrev pub absorbed0 : List Entry
 absorbed0 = pair 7 1 ∷ pair 7 2 ∷ []
 
-abbrev pub absorbed1 : List Pair
+abbrev pub absorbed1 : List Entry
 absorbed1 = pair 7 1 ∷ pair 7 2 ∷ pair 7 3 ∷ pair 7 2 ∷ []
 
-abbrev pub absorbed2 : List Pair
+abbrev pub absorbed2 : List Entry
 absorbed2 = pair 7 1 ∷ pair 7 2 ∷ pair 7 3 ∷ pair 7 4 ∷ []
 
 -- what each site is offered: its adds, what is delivered to it, and the ids of the table merged into it. The refused delivery offers nothing,
@@ -141,7 +141,7 @@ pairStart = afterFresh pairRun (lent (replicate 8 0) (replicate 1 noParcel) empt
 abbrev pub pairSteps : List Step
 pairSteps = Add 0 7 ∷ Send 0 1 7 ∷ Remove 0 7 ∷ Add 1 9 ∷ Merge 0 1 ∷ Deliver 0 ∷ Merge 1 0 ∷ []
 
-abbrev pub pairAbsorbed : ℕ → List Pair
+abbrev pub pairAbsorbed : ℕ → List Entry
 pairAbsorbed k = absorbed pairRun pairStart k pairSteps
 
 -- the table that a site ends with

@@ -10,7 +10,7 @@ use Rattle.rules.specs.declared.Step.{Step}
 use Rattle.rules.specs.meaning.Lengths.{join}
 use Rattle.rules.specs.meaning.Table.{lengthOf}
 use Rattle.rules.specs.meaning.States.{State, tableAt, sightOf}
-use Rattle.rules.specs.meaning.Steps.{Pair, siteIn}
+use Rattle.rules.specs.meaning.Steps.{Entry, siteIn}
 use Rattle.rules.specs.meaning.Runs.{refusalOf, effectOf, after}
 
 -- the state after a list of steps, refused ones among them
@@ -35,31 +35,31 @@ acceptedOf kind run s (step ∷ steps) = cond (isAccepted run s step && kind ste
 -- ---- what a site absorbs: "by accepted steps only: its own adds and removes, the updates delivered to it, and the tables merged into it
 -- as they then stood"
 -- what site k absorbs by one step
-unfoldable pub absorbedIn : Run → State → ℕ → Step → List Pair
+unfoldable pub absorbedIn : Run → State → ℕ → Step → List Entry
 absorbedIn run s k step = cond (isAccepted run s step && eqb (siteIn run (sightOf run s step) step) k) (effectOf run s step .gain .given) []
 
 -- and by a list of steps, in order
-unfoldable pub absorbed : Run → State → ℕ → List Step → List Pair
+unfoldable pub absorbed : Run → State → ℕ → List Step → List Entry
 absorbed run s k [] = []
 absorbed run s k (step ∷ steps) = absorbedIn run s k step ++ absorbed run (after run s step) k steps
 
 -- the largest length of an id among some pairs, "or zero if none"
-unfoldable pub largest : List Pair → ℕ → ℕ
+unfoldable pub largest : List Entry → ℕ → ℕ
 largest [] x = 0
 largest (p ∷ ps) x = cond (eqb (p .id) x) (join (p .length) (largest ps x)) (largest ps x)
 
 -- a pair occurs in a list
-unfoldable pub occurs : Pair → List Pair → Bool
+unfoldable pub occurs : Entry → List Entry → Bool
 occurs p [] = false
 occurs p (q ∷ qs) = eqb (p .id) (q .id) && eqb (p .length) (q .length) || occurs p qs
 
 -- every pair of the one occurs in the other
-unfoldable pub within : List Pair → List Pair → Bool
+unfoldable pub within : List Entry → List Entry → Bool
 within [] qs = true
 within (p ∷ ps) qs = occurs p qs && within ps qs
 
 -- the same set of pairs, "in whichever order and however often"
-abbrev pub samePairs : List Pair → List Pair → Bool
+abbrev pub samePairs : List Entry → List Entry → Bool
 samePairs ps qs = within ps qs && within qs ps
 
 -- ---- what a site is offered: "by adds, deliveries and merges, refused ones too"

@@ -18,17 +18,17 @@ use Rattle.rules.specs.meaning.Refusals.{Test, _when_}
 use Rattle.rules.specs.meaning.States.{tableAt, withTable}
 
 -- ---- what a site is given and offered
-pub record Pair : Type 0 where
+pub record Entry : Type 0 where
   pub id : ℕ
   pub length : ℕ
 
 -- "the length it returns, or nothing if that is 0"
-abbrev pub pairOf : ℕ → ℕ → List Pair
-pairOf e zero = []
-pairOf e (suc n) = record { id = e; length = suc n } ∷ []
+abbrev pub entryOf : ℕ → ℕ → List Entry
+entryOf e zero = []
+entryOf e (suc n) = record { id = e; length = suc n } ∷ []
 
 -- every entry of a table
-unfoldable pub entriesOf : List ℕ → List Pair
+unfoldable pub entriesOf : List ℕ → List Entry
 entriesOf [] = []
 entriesOf (w ∷ []) = []
 entriesOf (e ∷ zero ∷ t) = []
@@ -47,7 +47,7 @@ idsOf (e ∷ suc n ∷ t) = e ∷ idsOf t
 -- stood", and is offered ids "by adds, deliveries and merges, refused ones too"
 pub record Gain : Type 0 where
   pub site : ℕ
-  pub given : List Pair
+  pub given : List Entry
   pub offer : List ℕ
   pub words : List ℕ
 
@@ -128,14 +128,14 @@ module _ (run : Run) where
     effect si (Add k e) = record {
       tests = (3 when outside k) ∷ (8 when noRoom k e (lengthAdded k e)) ∷ [];
       value = lengthAdded k e;
-      gain = record { site = k; given = pairOf e (lengthAdded k e); offer = e ∷ []; words = withTable run ws k (addTable (table k) e) };
+      gain = record { site = k; given = entryOf e (lengthAdded k e); offer = e ∷ []; words = withTable run ws k (addTable (table k) e) };
       post = noPost si;
     }
     -- remove: likewise; "no entry is made", so nothing is offered
     effect si (Remove k e) = record {
       tests = (3 when outside k) ∷ (7 when wornOut k e) ∷ [];
       value = afterRemove (at k e);
-      gain = record { site = k; given = pairOf e (afterRemove (at k e)); offer = []; words = withTable run ws k (removeTable M (table k) e) };
+      gain = record { site = k; given = entryOf e (afterRemove (at k e)); offer = []; words = withTable run ws k (removeTable M (table k) e) };
       post = noPost si;
     }
     -- query: "none"; "length"
@@ -160,7 +160,7 @@ module _ (run : Run) where
       value = lengthDelivered (si .named);
       gain = record {
         site = si .named .site;
-        given = pairOf (si .named .id) (si .named .length);
+        given = entryOf (si .named .id) (si .named .length);
         offer = cond (nothingThere si i) [] (si .named .id ∷ []);
         words = withTable run ws (si .named .site) (absorbTable (table (si .named .site)) (si .named .id) (si .named .length));
       };

@@ -14,22 +14,22 @@ use Rattle.rules.specs.meaning.Table.{sound, lengthOf}
 use Rattle.rules.specs.laws.table.Order.{Side, Side.below, Side.same, Side.above, side}
 use Rattle.rules.specs.laws.table.View.{Unused.none, Unused.pair, Sound, Sound.rest, Sound.used, seen, parts}
 use Rattle.rules.specs.laws.table.Law.{of-same, of-other, of-unused, of-below}
-use Rattle.rules.specs.meaning.Steps.{Pair, pairOf, entriesOf}
+use Rattle.rules.specs.meaning.Steps.{Entry, entryOf, entriesOf}
 use Rattle.rules.specs.meaning.Histories.{largest, occurs, within, samePairs}
 
 -- ---- the largest length, a pair at a time
 -- a pair of the id in front
-pub largest-same : (p : Pair) (ps : List Pair) (x : ℕ) → p .id ≡ x → largest (p ∷ ps) x ≡ join (p .length) (largest ps x)
+pub largest-same : (p : Entry) (ps : List Entry) (x : ℕ) → p .id ≡ x → largest (p ∷ ps) x ≡ join (p .length) (largest ps x)
 unfolding largest
 largest-same p ps x h = rw (eq-eqb (p .id) x h)
 
 -- a pair of another id in front
-pub largest-other : (p : Pair) (ps : List Pair) (x : ℕ) → (p .id ≡ x → ⊥) → largest (p ∷ ps) x ≡ largest ps x
+pub largest-other : (p : Entry) (ps : List Entry) (x : ℕ) → (p .id ≡ x → ⊥) → largest (p ∷ ps) x ≡ largest ps x
 unfolding largest
 largest-other p ps x h = rw (ne-eqb (p .id) x h)
 
 -- one list of pairs and then another: the join of the two
-pub largest-append : (ps qs : List Pair) (x : ℕ) → largest (ps ++ qs) x ≡ join (largest ps x) (largest qs x)
+pub largest-append : (ps qs : List Entry) (x : ℕ) → largest (ps ++ qs) x ≡ join (largest ps x) (largest qs x)
 unfolding largest
 largest-append [] qs x = omega arith
 largest-append (p ∷ ps) qs x = go (eqb (p .id) x) (largest-append ps qs x)
@@ -40,7 +40,7 @@ largest-append (p ∷ ps) qs x = go (eqb (p .id) x) (largest-append ps qs x)
     go false ih = ih
 
 -- one pair, or none where its length is 0
-pub largest-pair : (e n x : ℕ) → largest (pairOf e n) x ≡ cond (eqb e x) n 0
+pub largest-pair : (e n x : ℕ) → largest (entryOf e n) x ≡ cond (eqb e x) n 0
 unfolding largest
 largest-pair e zero x = go (eqb e x)
   where
@@ -76,7 +76,7 @@ largest-entries most t h x = largest-entries′ (seen {most = most} {lo = 0} h) 
 
 -- ---- the same set of pairs has the same largest lengths
 -- a pair that occurs is no longer than the largest of its id
-occurs-below : (p : Pair) (qs : List Pair) → occurs p qs ≡ true → p .length ≤ largest qs (p .id)
+occurs-below : (p : Entry) (qs : List Entry) → occurs p qs ≡ true → p .length ≤ largest qs (p .id)
 unfolding occurs largest
 occurs-below p [] h = absurd (false≢true h)
 occurs-below p (q ∷ qs) h = go (eqb (p .id) (q .id) && eqb (p .length) (q .length)) refl (occurs-below p qs)
@@ -93,7 +93,7 @@ occurs-below p (q ∷ qs) h = go (eqb (p .id) (q .id) && eqb (p .length) (q .len
     go false e ih = further (eqb (q .id) (p .id)) (ih (rw e at h))
 
 -- so pairs that all occur among others have no larger length
-within-below : (ps qs : List Pair) → within ps qs ≡ true → (x : ℕ) → largest ps x ≤ largest qs x
+within-below : (ps qs : List Entry) → within ps qs ≡ true → (x : ℕ) → largest ps x ≤ largest qs x
 unfolding within largest
 within-below [] qs h x = omega arith
 within-below (p ∷ ps) qs h x = go (side (p .id) x) (within-below ps qs (parts (occurs p qs) _ h .1) x)
@@ -106,7 +106,7 @@ within-below (p ∷ ps) qs h x = go (side (p .id) x) (within-below ps qs (parts 
         omega (arith, largest-same p ps x q, own)
 
 -- "the same set of id and length pairs, in whichever order and however often"
-pub same-largest : (ps qs : List Pair) → samePairs ps qs ≡ true → (x : ℕ) → largest ps x ≡ largest qs x
+pub same-largest : (ps qs : List Entry) → samePairs ps qs ≡ true → (x : ℕ) → largest ps x ≡ largest qs x
 same-largest ps qs h x =
     let a = parts (within ps qs) _ h in
     omega (arith, within-below ps qs (a .0) x, within-below qs ps (a .1) x)

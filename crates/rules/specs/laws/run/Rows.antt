@@ -25,7 +25,7 @@ use Rattle.rules.specs.meaning.Ledgers.{ledgerSound, raisedLedger, raise
 use Rattle.rules.specs.meaning.Refusals.{Test, _when_, firstGiven}
 use Rattle.rules.specs.meaning.Kinds.{numbers, slotOf}
 use Rattle.rules.specs.meaning.States.{State, StateSound, tableAt, withTable, parcelAt}
-use Rattle.rules.specs.meaning.Steps.{Pair, pairOf, entriesOf, idsOf, outside, effect, siteIn}
+use Rattle.rules.specs.meaning.Steps.{Entry, entryOf, entriesOf, idsOf, outside, effect, siteIn}
 use Rattle.rules.specs.meaning.Runs.{effectOf, refusalOf, valueOf}
 use Rattle.rules.specs.meaning.Acts.{lowTaken}
 use Rattle.rules.specs.meaning.Histories.{largest, among}
@@ -49,7 +49,7 @@ given-by k n false ts later h = absurd (later h)
 
 -- a sound table of the same length put in
 module _ (run : Run) (s : State) (so : StateSound run s) (k : ℕ) (p : k < run .sites) (t : List ℕ) (ok : sound M t ≡ true) (size : length t ≡ length (tableAt run (s .words) k)) where
-  put-in : (given : List Pair) (offer : List ℕ)
+  put-in : (given : List Entry) (offer : List ℕ)
       → ((e : ℕ) → lengthOf t e ≡ join (lengthOf (tableAt run (s .words) k) e) (largest given e))
       → ((x : ℕ) → 1 ≤ largest given x → among x (offer ++ idsOf (tableAt run (s .words) k)) ≡ true)
       → Gains run (s .words) k record { site = k; given = given; offer = offer; words = withTable run (s .words) k t }
@@ -62,7 +62,7 @@ module _ (run : Run) (s : State) (so : StateSound run s) (k : ℕ) (p : k < run 
   }
 
 -- one id's length raised to its join with m is the join with the pair (x, m)
-one-joined : (x e n m v : ℕ) → (x ≡ e → v ≡ join n m) → cond (eqb x e) v n ≡ join n (largest (pairOf x m) e)
+one-joined : (x e n m v : ℕ) → (x ≡ e → v ≡ join n m) → cond (eqb x e) v n ≡ join n (largest (entryOf x m) e)
 one-joined x e n m v h = rw (largest-pair x m e) (go (eqb x e) refl)
   where
     go : (b : Bool) → eqb x e ≡ b → cond b v n ≡ join n (cond b m 0)
@@ -70,7 +70,7 @@ one-joined x e n m v h = rw (largest-pair x m e) (go (eqb x e) refl)
     go false q = omega arith
 
 -- a pair that is given has its id and a length
-pair-given : (e n x : ℕ) → 1 ≤ largest (pairOf e n) x → (e ≡ x) × (1 ≤ n)
+pair-given : (e n x : ℕ) → 1 ≤ largest (entryOf e n) x → (e ≡ x) × (1 ≤ n)
 pair-given e n x h = go (eqb e x) refl (rw (largest-pair e n x) at h)
   where
     go : (b : Bool) → eqb e x ≡ b → 1 ≤ cond b n 0 → (e ≡ x) × (1 ≤ n)
@@ -127,7 +127,7 @@ module _ (run : Run) (s : State) where
           let t = tableAt run (s .words) k in
           let ok = site-sound run s so k p in
           let n : ℕ = afterAdd (lengthOf t e) in
-          put-in run s so k p (addTable t e) (add-sound M refl t e ok) (raise-length M t e n ok) (pairOf e n) (e ∷ [])
+          put-in run s so k p (addTable t e) (add-sound M refl t e ok) (raise-length M t e n ok) (entryOf e n) (e ∷ [])
           (λ x. add-of M refl t e ok (add-fits run s k e a) x ∙ one-joined e x (lengthOf t x) n n (λ q. rw q (omega (arith, add-rises (lengthOf t x) .0))))
           (λ x g. rw (pair-given e n x g .0) (among-same x (idsOf t)));
       crowds = λ ok h r.
@@ -148,7 +148,7 @@ module _ (run : Run) (s : State) where
           let t = tableAt run (s .words) k in
           let ok = site-sound run s so k p in
           let n : ℕ = afterRemove (lengthOf t e) in
-          put-in run s so k p (removeTable M t e) (remove-sound M t e ok) (remove-length M t e ok) (pairOf e n) []
+          put-in run s so k p (removeTable M t e) (remove-sound M t e ok) (remove-length M t e ok) (entryOf e n) []
           (λ x. remove-of M t e ok (remove-fits run s k e a) x ∙ one-joined e x (lengthOf t x) n n (λ q. rw q (omega (arith, remove-rises (lengthOf t x) .0))))
           (λ x g. let c = pair-given e n x g in held-among M t ok x (rw (c .0) at (removed-held (lengthOf t e) (c .1))));
       crowds = λ ok h r. absurd (omega (arith, given-numbered 3 7 _ refl 7 (own-tests ok (Remove k e) r)));
@@ -199,7 +199,7 @@ module _ (run : Run) (s : State) where
           let t = tableAt run (s .words) (q .site) in
           let ok = site-sound run s so (q .site) (o .2) in
           let n : ℕ = join (lengthOf t (q .id)) (q .length) in
-          put-in run s so (q .site) (o .2) (absorbTable t (q .id) (q .length)) (absorb-sound M t (q .id) (q .length) (o .1) ok) (raise-length M t (q .id) n ok) (pairOf (q .id) (q .length)) _
+          put-in run s so (q .site) (o .2) (absorbTable t (q .id) (q .length)) (absorb-sound M t (q .id) (q .length) (o .1) ok) (raise-length M t (q .id) n ok) (entryOf (q .id) (q .length)) _
           (λ x. absorb-of M t (q .id) (q .length) (o .1) ok (deliver-fits run s i a) x ∙ one-joined (q .id) x (lengthOf t x) (q .length) n (λ z. rw z))
           (λ x g. rw (lt-leb (length (s .slots)) i (own .0), own .1, pair-given (q .id) (q .length) x g .0) (among-same x (idsOf t)));
       crowds = λ ok h r.
