@@ -1,5 +1,6 @@
 -- What follows from `meaning`.
 pub mod Lengths
+pub mod Serials
 pub mod table
 pub mod run
 pub mod history

@@ -3,12 +3,15 @@ pub mod Lengths
 pub mod Table
 pub mod Operations
 pub mod Parcels
+pub mod Serials
+pub mod Links
 pub mod Ledgers
 pub mod Refusals
 pub mod Kinds
 pub mod States
 pub mod Steps
 pub mod Runs
+pub mod Lags
 pub mod Acts
 pub mod Histories
 pub mod Text

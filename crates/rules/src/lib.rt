@@ -32,21 +32,40 @@ pub struct Run {
     pub capacity: u64,
 }
 
-// One slot of the parcel list: an update under way to a site, or all 0 where the slot is free.
+// One slot of the parcel list: an update under way to a site, with the site that sent it and its serial; or all 0 where the slot is free.
 #[repr(C)]
 pub struct Parcel {
     pub site: u64,
     pub id: u64,
     pub length: u64,
+    pub sender: u32,
+    pub serial: u32,
+}
+
+// What is kept of the link from one site to another: the next serial to go out, the newest one heard, a mark for nothing sent and one for nothing
+// heard. A mark stands where it is not 0.
+#[repr(C)]
+pub struct Pair {
+    pub next: u32,
+    pub heard: u32,
+    pub unsent: u32,
+    pub unheard: u32,
 }
 
 // The counts of updates: sent, copied, absorbed, lost. How many wait is not stored.
 #[repr(C)]
-pub struct Ledger {
+pub struct Counts {
     pub sent: u64,
     pub copied: u64,
     pub absorbed: u64,
     pub lost: u64,
+}
+
+// The counts, and an entry for each ordered pair of sites: that of site a to site b is at 16 a + b, however many sites a run has.
+#[repr(C)]
+pub struct Ledger {
+    pub counts: Counts,
+    pub pairs: [Pair; 256],
 }
 
 // What one pass over the slots tells: whether each is free or rightly occupied, how many are occupied, and the lowest free one, or the number
@@ -57,13 +76,26 @@ pub struct Scan {
     pub free: usize,
 }
 
+// What a step sees of the ledger: the counts, the entry of the link that it names, and whether the entries of the run's links are sound.
+pub struct Seen {
+    pub counts: Counts,
+    pub pair: Pair,
+    pub sound: bool,
+}
+
 // What a step sees besides the words: what one pass over the slots told, the parcel in the slot that the step names, how many slots there are,
-// and the ledger.
+// and what it sees of the ledger.
 pub struct Sight {
     pub scan: Scan,
     pub named: Parcel,
     pub count: usize,
-    pub ledger: Ledger,
+    pub books: Seen,
+}
+
+// What the lag query answers: 0 or the number of its refusal, and the lag, which is 0 on a refusal.
+pub struct Lag {
+    pub refusal: u32,
+    pub lag: i32,
 }
 
 // The eight steps of a run.

@@ -10,6 +10,7 @@ use Rattle.rules.specs.declared.Run.{Run}
 use Rattle.rules.specs.declared.Step.{Step}
 use Rattle.rules.specs.meaning.Operations.{answer}
 use Rattle.rules.specs.meaning.Parcels.{noParcel, lowestFree}
+use Rattle.rules.specs.meaning.Links.{noLink}
 use Rattle.rules.specs.meaning.Refusals.{firstGiven}
 use Rattle.rules.specs.meaning.Kinds.{takesSlot, freesSlot, slotOf}
 use Rattle.rules.specs.meaning.States.{State, sightWith, StateSound}
@@ -17,7 +18,7 @@ use Rattle.rules.specs.meaning.Runs.{judgeTests, answerOf, after, stateB
 
 -- what 1 and 2 say of a state: one of them, or 0
 unfoldable pub judgedOf : Run → State → ℕ
-judgedOf run s = firstGiven (judgeTests run (s .words) (sightWith noParcel run s))
+judgedOf run s = firstGiven (judgeTests run (s .words) (sightWith noParcel noLink run s))
 
 -- where nothing has refused the step, the state is sound; and below `low` no slot is free
 abbrev pub Clear : ℕ → ℕ → Run → State → Type 0

@@ -13,6 +13,7 @@ use Rattle.rules.specs.declared.Named.{Named}
 use Rattle.rules.specs.declared.Named.the-variants.{Is, NoStep}
 use Rattle.rules.specs.meaning.Operations.{unlessRefused}
 use Rattle.rules.specs.meaning.Parcels.{noParcel}
+use Rattle.rules.specs.meaning.Links.{noLink}
 use Rattle.rules.specs.meaning.Put.{put}
 use Rattle.rules.specs.meaning.Refusals.{_when_, firstGiven}
 use Rattle.rules.specs.meaning.States.{State, sightWith}
@@ -44,7 +45,7 @@ answersTo run s (ask ∷ asks) = namedAnswer run s ask .refusal ∷ namedAnswer 
 -- answers for each four of them
 unfoldable pub burstRefusal : Run → State → ℕ → ℕ → ℕ
 burstRefusal run s asked room =
-    firstGiven (judgeTests run (s .words) (sightWith noParcel run s) ++ ((11 when not (eqb (asked % 4) 0)) ∷ (13 when ltb room (2 * (asked / 4))) ∷ []))
+    firstGiven (judgeTests run (s .words) (sightWith noParcel noLink run s) ++ ((11 when not (eqb (asked % 4) 0)) ∷ (13 when ltb room (2 * (asked / 4))) ∷ []))
 
 -- the contract: the refusal, the state that is left, and every word of the answers
 pub record Handled (run : Run) (before : State) (asks given : List ℕ) (r : ℕ) (left : State) (said : List ℕ) : Type 0 where

@@ -1,10 +1,12 @@
--- A step by its four numbers, as document 01 has them: its kind, and the slot that it names.
+-- A step by its four numbers, as document 01 has them: its kind, and the slot and the link that it names.
 -- Assumes nothing.
 use Prim.Native.Nat.{ℕ}
 use mathlib.Core.Bool.{Bool, _||_, cond}
 use lib.Dec.{eqb}
+use Rattle.rules.specs.declared.Parcel.{Parcel}
 use Rattle.rules.specs.declared.Step.{Step}
 use Rattle.rules.specs.declared.Step.the-variants.{Add, Remove, Query, Send, Merge, Deliver, Again, Lose}
+use Rattle.rules.specs.meaning.Links.{noLink, linkBetween}
 
 -- "kind (1 add, 2 remove, 3 query, 4 send, 5 merge, 6 deliver, 7 again, 8 lose), first site or slot, second site, id; unused ones 0"
 pub record Four : Type 0 where
@@ -50,3 +52,8 @@ freesSlot step = isDeliver step || isLose step
 -- the slot that a step names, and 0 for a step that names none
 unfoldable pub slotOf : Step → ℕ
 slotOf step = cond (freesSlot step || isAgain step) (numbers step .first) 0
+
+-- the link that a step names, in a run of so many sites: a send by its two sites, a delivery by the parcel in its slot, and no other step any
+unfoldable pub linkOf : ℕ → Parcel → Step → ℕ
+linkOf sites p step =
+    cond (isSend step) (linkBetween sites (numbers step .first) (numbers step .second)) (cond (isDeliver step) (linkBetween sites (p .sender) (p .site)) noLink)

@@ -1,18 +1,24 @@
--- The ledger: "Sound means each counter is at most M and sent + copied = absorbed + lost + waiting."
+-- The ledger: the counts, of which "Sound means each counter is at most M and sent + copied = absorbed + lost + waiting", and the entries of the links.
 -- Assumes nothing.
 use Prim.Native.Nat.{ℕ, suc, _+_}
 use mathlib.Core.Bool.{Bool, true, false, _&&_, cond}
+use lib.ListN.{getD, set}
 use lib.Dec.{leb, ltb, eqb}
+use Rattle.rules.specs.declared.Pair.{Pair}
+use Rattle.rules.specs.declared.Counts.{Counts}
 use Rattle.rules.specs.declared.Ledger.{Ledger}
+use Rattle.rules.specs.declared.Seen.{Seen}
+use Rattle.rules.specs.meaning.Links.{noPair, linksSound, linksBegun}
 
-unfoldable pub ledgerSound : ℕ → ℕ → Ledger → Bool
-ledgerSound most waiting l =
-    leb (l .sent) most && (leb (l .copied) most && (leb (l .absorbed) most && (leb (l .lost) most
-    && eqb (l .sent + l .copied) (l .absorbed + l .lost + waiting))))
+-- ---- the counts
+unfoldable pub countsSound : ℕ → ℕ → Counts → Bool
+countsSound most waiting c =
+    leb (c .sent) most && (leb (c .copied) most && (leb (c .absorbed) most && (leb (c .lost) most
+    && eqb (c .sent + c .copied) (c .absorbed + c .lost + waiting))))
 
 -- all counters 0, as in a fresh run
-abbrev pub emptyLedger : Ledger
-emptyLedger = record { sent = 0; copied = 0; absorbed = 0; lost = 0 }
+abbrev pub noCounts : Counts
+noCounts = record { sent = 0; copied = 0; absorbed = 0; lost = 0 }
 
 -- the counters by number; 0 is none of them
 abbrev pub noCounter : ℕ
@@ -38,16 +44,29 @@ oneMore most n = cond (ltb n most) (suc n) n
 unfoldable pub raisedIf : ℕ → Bool → ℕ → ℕ
 raisedIf most named n = cond named (oneMore most n) n
 
--- the ledger with the named counter raised
-abbrev pub raisedLedger : ℕ → ℕ → Ledger → Ledger
-raisedLedger most counter l = record {
-  sent = raisedIf most (eqb counter sentCounter) (l .sent);
-  copied = raisedIf most (eqb counter copiedCounter) (l .copied);
-  absorbed = raisedIf most (eqb counter absorbedCounter) (l .absorbed);
-  lost = raisedIf most (eqb counter lostCounter) (l .lost);
+-- the counts with the named counter raised
+abbrev pub raisedCounts : ℕ → ℕ → Counts → Counts
+raisedCounts most counter c = record {
+  sent = raisedIf most (eqb counter sentCounter) (c .sent);
+  copied = raisedIf most (eqb counter copiedCounter) (c .copied);
+  absorbed = raisedIf most (eqb counter absorbedCounter) (c .absorbed);
+  lost = raisedIf most (eqb counter lostCounter) (c .lost);
 }
 
--- the ledger emptied where that is wanted, else the ledger as it is
-unfoldable pub emptiedIf : Bool → Ledger → Ledger
-emptiedIf true l = emptyLedger
-emptiedIf false l = l
+-- ---- the ledger
+-- what a step makes of it: a counter raised, and the entry of a link set
+abbrev pub bookedLedger : ℕ → ℕ → ℕ → Pair → Ledger → Ledger
+bookedLedger most counter link p l = record { counts = raisedCounts most counter (l .counts); pairs = set (l .pairs) link p }
+
+-- what a fresh run makes of it: no count, and each link of the run at its beginning
+abbrev pub startedLedger : ℕ → ℕ → Ledger → Ledger
+startedLedger sites first l = record { counts = noCounts; pairs = linksBegun sites first (l .pairs) }
+
+-- the same where that is wanted, else the ledger as it is
+unfoldable pub startedIf : Bool → ℕ → ℕ → Ledger → Ledger
+startedIf true sites first l = startedLedger sites first l
+startedIf false sites first l = l
+
+-- what a step sees of it
+abbrev pub seenOf : ℕ → ℕ → Ledger → Seen
+seenOf sites link l = record { counts = l .counts; pair = getD (l .pairs) link noPair; sound = linksSound sites (l .pairs) }

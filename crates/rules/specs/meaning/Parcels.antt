@@ -1,7 +1,8 @@
--- The parcel list: a list of slots. "A free slot has all three 0; an occupied one has a length of 1 to M and a site of the run."
+-- The parcel list: a list of slots. "A free slot has all three 0; an occupied one has a length of 1 to M and a site of the run." Request 2 adds the sender
+-- and the serial: "a free slot has them all 0, an occupied one a sender of the run other than its destination".
 -- Assumes nothing.
 use Prim.Native.Nat.{ℕ, zero, suc}
-use mathlib.Core.Bool.{Bool, true, _&&_, _||_, cond}
+use mathlib.Core.Bool.{Bool, true, _&&_, _||_, not, cond}
 use mathlib.Core.List.{List, [], _∷_}
 use lib.Dec.{leb, ltb, eqb}
 use Rattle.rules.specs.declared.Parcel.{Parcel}
@@ -9,14 +10,14 @@ use Rattle.rules.specs.declared.Scan.{Scan}
 
 -- what stands in a free slot
 abbrev pub noParcel : Parcel
-noParcel = record { site = 0; id = 0; length = 0 }
+noParcel = record { site = 0; id = 0; length = 0; sender = 0; serial = 0 }
 
 unfoldable pub isFree : Parcel → Bool
-isFree p = eqb (p .site) 0 && (eqb (p .id) 0 && eqb (p .length) 0)
+isFree p = eqb (p .site) 0 && (eqb (p .id) 0 && (eqb (p .length) 0 && (eqb (p .sender) 0 && eqb (p .serial) 0)))
 
 -- with lengths up to `most`, in a run of so many sites
 unfoldable pub isOccupied : ℕ → ℕ → Parcel → Bool
-isOccupied most sites p = leb 1 (p .length) && (leb (p .length) most && ltb (p .site) sites)
+isOccupied most sites p = leb 1 (p .length) && (leb (p .length) most && (ltb (p .site) sites && (ltb (p .sender) sites && not (eqb (p .sender) (p .site)))))
 
 -- every slot is free or rightly occupied
 unfoldable pub slotsSound : ℕ → ℕ → List Parcel → Bool

@@ -7,6 +7,7 @@ use mathlib.Core.List.{List, [], _∷_, _++_}
 use lib.ListN.{length, replicate}
 use lib.Dec.{ltb, eqb}
 use Rattle.rules.specs.declared.Run.{Run}
+use Rattle.rules.specs.declared.Counts.{Counts}
 use Rattle.rules.specs.declared.Ledger.{Ledger}
 use Rattle.rules.specs.declared.Step.{Step}
 use Rattle.rules.specs.declared.Named.{Named}
@@ -15,7 +16,8 @@ use Rattle.rules.specs.declared.Reported.{Reported}
 use Rattle.rules.specs.meaning.Lengths.{listed}
 use Rattle.rules.specs.meaning.Table.{held, shown}
 use Rattle.rules.specs.meaning.Parcels.{noParcel, waiting}
-use Rattle.rules.specs.meaning.Ledgers.{emptyLedger}
+use Rattle.rules.specs.meaning.Links.{startPair}
+use Rattle.rules.specs.meaning.Ledgers.{noCounts}
 use Rattle.rules.specs.meaning.States.{State, lent, tableAt}
 use Rattle.rules.specs.meaning.Refusals.{_when_, firstGiven}
 use Rattle.rules.specs.meaning.Runs.{refusalOf, valueOf, after}
@@ -30,8 +32,12 @@ use Rattle.rules.specs.meaning.Put.{put}
 abbrev pub reportRun : Run
 reportRun = record { sites = 3; capacity = 8 }
 
+-- "The report starts each pair at 0"
+abbrev pub reportLedger : Ledger
+reportLedger = record { counts = noCounts; pairs = replicate 256 (startPair 0) }
+
 abbrev pub reportStart : State
-reportStart = lent (replicate 48 0) (replicate 8 noParcel) emptyLedger
+reportStart = lent (replicate 48 0) (replicate 8 noParcel) reportLedger
 
 -- ---- the lines of a report
 abbrev pub lineEnd : ℕ
@@ -52,12 +58,12 @@ abbrev pub countLine : List ℕ → ℕ → List ℕ
 countLine name n = name ++ (digits n ++ (lineEnd ∷ []))
 
 -- "then the ledger": its four counts, and how many wait
-unfoldable pub ledgerLines : Ledger → ℕ → List ℕ
-ledgerLines l w =
-    countLine (ascii "sent=") (l .sent)
-    ++ (countLine (ascii "copied=") (l .copied)
-    ++ (countLine (ascii "absorbed=") (l .absorbed)
-    ++ (countLine (ascii "lost=") (l .lost)
+unfoldable pub ledgerLines : Counts → ℕ → List ℕ
+ledgerLines c w =
+    countLine (ascii "sent=") (c .sent)
+    ++ (countLine (ascii "copied=") (c .copied)
+    ++ (countLine (ascii "absorbed=") (c .absorbed)
+    ++ (countLine (ascii "lost=") (c .lost)
     ++ countLine (ascii "waiting=") w)))
 
 -- "held counts entries and shown counts those with odd length". Document 01 has entries for `shown`, "and that was wrong": a site desk read `shown=1`
@@ -72,7 +78,7 @@ siteLines (suc n) k ws = siteLine k (tableAt reportRun ws k) ++ siteLines n (suc
 
 -- what stands at the end of every report
 unfoldable pub endLines : State → List ℕ
-endLines s = ledgerLines (s .ledger) (waiting (s .slots)) ++ siteLines (reportRun .sites) 0 (s .words)
+endLines s = ledgerLines (s .ledger .counts) (waiting (s .slots)) ++ siteLines (reportRun .sites) 0 (s .words)
 
 -- ---- what each line of the input adds to the report; what it does to the state is that of a step by its numbers
 -- an accepted step says nothing, unless it is a query

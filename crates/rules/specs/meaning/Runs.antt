@@ -12,7 +12,7 @@ use Rattle.rules.specs.declared.Step.{Step}
 use Rattle.rules.specs.meaning.Lengths.{M}
 use Rattle.rules.specs.meaning.Operations.{answer}
 use Rattle.rules.specs.meaning.Parcels.{cleared}
-use Rattle.rules.specs.meaning.Ledgers.{raisedLedger, emptyLedger}
+use Rattle.rules.specs.meaning.Ledgers.{bookedLedger, startedLedger}
 use Rattle.rules.specs.meaning.Refusals.{Test, _when_, firstGiven}
 use Rattle.rules.specs.meaning.States.{State, sizesRight, allSound, sightOf}
 use Rattle.rules.specs.meaning.Steps.{Effect, effect}
@@ -43,7 +43,7 @@ abbrev pub moved : Run → State → Step → State
 moved run s step = record {
   words = effectOf run s step .gain .words;
   slots = set (s .slots) (effectOf run s step .post .place) (effectOf run s step .post .parcel);
-  ledger = raisedLedger M (effectOf run s step .post .counter) (s .ledger);
+  ledger = bookedLedger M (effectOf run s step .post .counter) (effectOf run s step .post .link) (effectOf run s step .post .pair) (s .ledger);
 }
 
 -- "A refused step .. writes nothing, counters included"
@@ -54,21 +54,26 @@ stateBy (suc r) before after = before
 unfoldable pub after : Run → State → Step → State
 after run s step = stateBy (refusalOf run s step) s (moved run s step)
 
--- ---- "Fresh: every word, slot and counter 0. Making a run fresh refuses with 1 only; it doesn't judge what stood there before."
+-- ---- "Fresh: every word, slot and counter 0. Making a run fresh refuses with 1 only; it doesn't judge what stood there before." Each link "starts at one
+-- first serial, named for all pairs when the run is made fresh"
 unfoldable pub freshRefusal : Run → ℕ → ℕ → ℕ
 freshRefusal run words slots = firstGiven ((1 when not (sizesRight run words slots)) ∷ [])
 
-abbrev pub empty : State → State
-empty s = record { words = replicate (length (s .words)) 0; slots = cleared (length (s .slots)) (s .slots); ledger = emptyLedger }
+abbrev pub empty : Run → ℕ → State → State
+empty run first s = record {
+  words = replicate (length (s .words)) 0;
+  slots = cleared (length (s .slots)) (s .slots);
+  ledger = startedLedger (run .sites) first (s .ledger);
+}
 
-unfoldable pub afterFresh : Run → State → State
-afterFresh run s = stateBy (freshRefusal run (length (s .words)) (length (s .slots))) s (empty s)
+unfoldable pub afterFresh : Run → ℕ → State → State
+afterFresh run first s = stateBy (freshRefusal run (length (s .words)) (length (s .slots))) s (empty run first s)
 
 -- ---- the contracts of `step` and `fresh`: the answer, and the state that is left
 pub record Stepped (run : Run) (before : State) (step : Step) (r : Answer) (left : State) : Type 0 where
   pub answer : r ≡ answerOf run before step
   pub state : left ≡ after run before step
 
-pub record Freshened (run : Run) (before : State) (r : ℕ) (left : State) : Type 0 where
+pub record Freshened (run : Run) (first : ℕ) (before : State) (r : ℕ) (left : State) : Type 0 where
   pub refusal : r ≡ freshRefusal run (length (before .words)) (length (before .slots))
-  pub state : left ≡ afterFresh run before
+  pub state : left ≡ afterFresh run first before

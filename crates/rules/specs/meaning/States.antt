@@ -14,8 +14,9 @@ use Rattle.rules.specs.declared.Step.{Step}
 use Rattle.rules.specs.meaning.Lengths.{M}
 use Rattle.rules.specs.meaning.Table.{sound}
 use Rattle.rules.specs.meaning.Parcels.{noParcel, slotsSound, waiting, scanOf}
-use Rattle.rules.specs.meaning.Ledgers.{ledgerSound}
-use Rattle.rules.specs.meaning.Kinds.{slotOf}
+use Rattle.rules.specs.meaning.Links.{linksSound}
+use Rattle.rules.specs.meaning.Ledgers.{countsSound, seenOf}
+use Rattle.rules.specs.meaning.Kinds.{slotOf, linkOf}
 
 -- the words, the slots and the ledger
 pub record State : Type 0 where
@@ -51,7 +52,7 @@ tablesSound most w (suc n) ws = sound most (take w ws) && tablesSound most w n (
 
 -- every table, slot and the ledger is as laid out
 unfoldable pub allSound : Run → List ℕ → Sight → Bool
-allSound run ws si = tablesSound M (width run) (run .sites) ws && (si .scan .sound && ledgerSound M (si .scan .waiting) (si .ledger))
+allSound run ws si = tablesSound M (width run) (run .sites) ws && (si .scan .sound && (countsSound M (si .scan .waiting) (si .books .counts) && si .books .sound))
 
 -- a sound state: the sizes right, and every table, every slot and the ledger as laid out
 abbrev pub StateSound : Run → State → Type 0
@@ -59,17 +60,19 @@ StateSound run s =
     (sizesRight run (length (s .words)) (length (s .slots)) ≡ true)
     × (tablesSound M (width run) (run .sites) (s .words) ≡ true)
     × (slotsSound M (run .sites) (s .slots) ≡ true)
-    × (ledgerSound M (waiting (s .slots)) (s .ledger) ≡ true)
+    × (countsSound M (waiting (s .slots)) (s .ledger .counts) ≡ true)
+    × (linksSound (run .sites) (s .ledger .pairs) ≡ true)
 
 -- ---- what a step sees besides the words
--- what one pass over the slots tells, a parcel that is looked at, and how many slots there are; and the ledger
-abbrev pub sightWith : Parcel → Run → State → Sight
-sightWith named run s = record { scan = scanOf M (run .sites) (s .slots); named = named; count = length (s .slots); ledger = s .ledger }
+-- what one pass over the slots tells, a parcel that is looked at, and how many slots there are; and of the ledger the counts, the entry of a link that
+-- is looked at, and whether the entries of all links are sound
+abbrev pub sightWith : Parcel → ℕ → Run → State → Sight
+sightWith named link run s = record { scan = scanOf M (run .sites) (s .slots); named = named; count = length (s .slots); books = seenOf (run .sites) link (s .ledger) }
 
 -- the parcel in a slot
 abbrev pub parcelAt : State → ℕ → Parcel
 parcelAt s i = getD (s .slots) i noParcel
 
--- with the parcel in the slot that the step names
+-- with the parcel in the slot that the step names, and the entry of the link that it names
 abbrev pub sightOf : Run → State → Step → Sight
-sightOf run s step = sightWith (parcelAt s (slotOf step)) run s
+sightOf run s step = sightWith (parcelAt s (slotOf step)) (linkOf (run .sites) (parcelAt s (slotOf step)) step) run s

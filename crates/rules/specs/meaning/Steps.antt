@@ -6,6 +6,7 @@ use mathlib.Core.List.{List, [], _∷_}
 use lib.Dec.{leb, eqb}
 use Rattle.rules.specs.declared.Run.{Run}
 use Rattle.rules.specs.declared.Parcel.{Parcel}
+use Rattle.rules.specs.declared.Pair.{Pair}
 use Rattle.rules.specs.declared.Sight.{Sight}
 use Rattle.rules.specs.declared.Step.{Step}
 use Rattle.rules.specs.declared.Step.the-variants.{Add, Remove, Query, Send, Merge, Deliver, Again, Lose}
@@ -13,6 +14,7 @@ use Rattle.rules.specs.meaning.Lengths.{M, afterAdd, afterRemove, join, 
 use Rattle.rules.specs.meaning.Table.{lengthOf, heldWith, heldMerged, rises}
 use Rattle.rules.specs.meaning.Operations.{crowded, addTable, absorbTable, removeTable, mergeTable}
 use Rattle.rules.specs.meaning.Parcels.{noParcel, isOccupied}
+use Rattle.rules.specs.meaning.Links.{noLink, noPair, linkBetween, sentPair, heardPair, incomparable}
 use Rattle.rules.specs.meaning.Ledgers.{noCounter, sentCounter, copiedCounter, absorbedCounter, lostCounter}
 use Rattle.rules.specs.meaning.Refusals.{Test, _when_}
 use Rattle.rules.specs.meaning.States.{tableAt, withTable}
@@ -51,11 +53,14 @@ pub record Gain : Type 0 where
   pub offer : List ℕ
   pub words : List ℕ
 
--- what it does to the parcels: the slot that is set, what is put there, and the counter that the step earns
+-- what it does to the parcels and to the ledger: the slot that is set, what is put there, the counter that the step earns, the link whose entry is set,
+-- and that entry
 pub record Post : Type 0 where
   pub place : ℕ
   pub parcel : Parcel
   pub counter : ℕ
+  pub link : ℕ
+  pub pair : Pair
 
 -- the tests that refuse it, in the order of the numbers, once 1 and 2 have judged the state; what it "returns"; and its "effect if accepted"
 pub record Effect : Type 0 where
@@ -64,17 +69,17 @@ pub record Effect : Type 0 where
   pub gain : Gain
   pub post : Post
 
--- no parcel moves: past the last slot nothing is set
+-- no parcel moves: past the last slot and past the last entry nothing is set
 abbrev pub noPost : Sight → Post
-noPost si = record { place = si .count; parcel = noParcel; counter = noCounter }
+noPost si = record { place = si .count; parcel = noParcel; counter = noCounter; link = noLink; pair = noPair }
 
 -- "A new parcel takes the free slot with the lowest number"
-abbrev pub puts : Sight → Parcel → ℕ → Post
-puts si p counter = record { place = si .scan .free; parcel = p; counter = counter }
+abbrev pub puts : Sight → Parcel → ℕ → ℕ → Pair → Post
+puts si p counter link pair = record { place = si .scan .free; parcel = p; counter = counter; link = link; pair = pair }
 
 -- "slot freed"
-abbrev pub frees : ℕ → ℕ → Post
-frees i counter = record { place = i; parcel = noParcel; counter = counter }
+abbrev pub frees : ℕ → ℕ → ℕ → Pair → Post
+frees i counter link pair = record { place = i; parcel = noParcel; counter = counter; link = link; pair = pair }
 
 -- 9: no free slot
 abbrev pub noFreeSlot : Sight → Bool
@@ -140,23 +145,24 @@ module _ (run : Run) where
     }
     -- query: "none"; "length"
     effect si (Query k e) = record { tests = (3 when outside k) ∷ []; value = at k e; gain = noGain; post = noPost si }
-    -- send: "parcel with the sender's length for the id, then sent + 1"; "slot"
+    -- send: "parcel with the sender's length for the id, then sent + 1"; "slot". The parcel has the sender and the next serial of its link
     effect si (Send f t e) = record {
-      tests = (3 when (outside f || outside t)) ∷ (4 when eqb f t) ∷ (6 when unheld f e) ∷ (9 when noFreeSlot si) ∷ (10 when eqb (si .ledger .sent) M) ∷ [];
+      tests = (3 when (outside f || outside t)) ∷ (4 when eqb f t) ∷ (6 when unheld f e) ∷ (9 when noFreeSlot si) ∷ (10 when eqb (si .books .counts .sent) M) ∷ [];
       value = si .scan .free;
       gain = noGain;
-      post = puts si (record { site = t; id = e; length = at f e }) sentCounter;
+      post = puts si (record { site = t; id = e; length = at f e; sender = f; serial = si .books .pair .next }) sentCounter (linkBetween (run .sites) f t) (sentPair (si .books .pair));
     }
-    -- again: "second parcel like the one in the slot, copied + 1"; "new slot"
+    -- again: "second parcel like the one in the slot, copied + 1"; "new slot". "A copy made by again keeps its serial"
     effect si (Again i) = record {
-      tests = (5 when nothingThere si i) ∷ (9 when noFreeSlot si) ∷ (10 when eqb (si .ledger .copied) M) ∷ [];
+      tests = (5 when nothingThere si i) ∷ (9 when noFreeSlot si) ∷ (10 when eqb (si .books .counts .copied) M) ∷ [];
       value = si .scan .free;
       gain = noGain;
-      post = puts si (si .named) copiedCounter;
+      post = puts si (si .named) copiedCounter noLink noPair;
     }
-    -- deliver: "merged at its site, slot freed, absorbed + 1, even if the length did not rise"; "length after"
+    -- deliver: "merged at its site, slot freed, absorbed + 1, even if the length did not rise"; "length after". The newest heard may move on
     effect si (Deliver i) = record {
-      tests = (5 when nothingThere si i) ∷ (8 when noRoom (si .named .site) (si .named .id) (lengthDelivered (si .named))) ∷ (10 when eqb (si .ledger .absorbed) M) ∷ [];
+      tests = (5 when nothingThere si i) ∷ (15 when incomparable (si .named .serial) (si .books .pair))
+          ∷ (8 when noRoom (si .named .site) (si .named .id) (lengthDelivered (si .named))) ∷ (10 when eqb (si .books .counts .absorbed) M) ∷ [];
       value = lengthDelivered (si .named);
       gain = record {
         site = si .named .site;
@@ -164,14 +170,14 @@ module _ (run : Run) where
         offer = cond (nothingThere si i) [] (si .named .id ∷ []);
         words = withTable run ws (si .named .site) (absorbTable (table (si .named .site)) (si .named .id) (si .named .length));
       };
-      post = frees i absorbedCounter;
+      post = frees i absorbedCounter (linkBetween (run .sites) (si .named .sender) (si .named .site)) (heardPair (si .named .serial) (si .books .pair));
     }
     -- lose: "slot freed, lost + 1"; 0
     effect si (Lose i) = record {
-      tests = (5 when nothingThere si i) ∷ (10 when eqb (si .ledger .lost) M) ∷ [];
+      tests = (5 when nothingThere si i) ∷ (10 when eqb (si .books .counts .lost) M) ∷ [];
       value = 0;
       gain = noGain;
-      post = frees i lostCounter;
+      post = frees i lostCounter noLink noPair;
     }
     -- merge: "the first site's whole table into the second's; the first unchanged"; "number of ids whose length rose"
     effect si (Merge f t) = record {

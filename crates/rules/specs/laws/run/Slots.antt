@@ -7,8 +7,8 @@ use mathlib.Core.Bool.{Bool, true, false, _||_, not, cond, false≢true}
 use mathlib.Core.Path.{_≡_, refl, sym, ap, _∙_}
 use mathlib.Core.List.{List, [], _∷_}
 use lib.ListN.{length, getD, set}
-use lib.Dec.{leb, eqb}
-use borrow.Author.Tests.{leb-true, ltb-true, eqb-true, le-leb, lt-ltb}
+use lib.Dec.{leb, ltb, eqb}
+use borrow.Author.Tests.{leb-true, ltb-true, eqb-true, eqb-false, le-leb, lt-ltb, ne-eqb, not-true}
 use Rattle.rules.specs.declared.Parcel.{Parcel}
 use Rattle.rules.specs.laws.table.View.{parts}
 use Rattle.rules.specs.meaning.Parcels.{noParcel, isFree, isOccupied, slotsSound, waiting, lowestFree, cleared}
@@ -17,7 +17,7 @@ use Rattle.rules.specs.meaning.Parcels.{noParcel, isFree, isOccupied, sl
 -- the parcel of a free slot has length 0
 pub free-length : (p : Parcel) → isFree p ≡ true → p .length ≡ 0
 unfolding isFree
-free-length p h = eqb-true (p .length) 0 (parts (eqb (p .id) 0) _ (parts (eqb (p .site) 0) _ h .1) .1)
+free-length p h = eqb-true (p .length) 0 (parts (eqb (p .length) 0) _ (parts (eqb (p .id) 0) _ (parts (eqb (p .site) 0) _ h .1) .1) .0)
 
 -- a free slot is not occupied
 pub free-not-occupied : (most sites : ℕ) (p : Parcel) → isFree p ≡ true → isOccupied most sites p ≡ false
@@ -32,18 +32,22 @@ occupied-not-free most sites p h = go (isFree p) refl
     go true q = absurd (false≢true (sym (free-not-occupied most sites p q) ∙ h))
     go false q = refl
 
--- a length of 1 to the largest and a site of the run make an occupied slot
-pub occupied-by : (most sites : ℕ) (p : Parcel) → 1 ≤ p .length → p .length ≤ most → p .site < sites → isOccupied most sites p ≡ true
+-- a length of 1 to the largest, a site of the run and a sender that is another one make an occupied slot
+pub occupied-by : (most sites : ℕ) (p : Parcel) → 1 ≤ p .length → p .length ≤ most → p .site < sites → p .sender < sites → (p .sender ≡ p .site → ⊥) → isOccupied most sites p ≡ true
 unfolding isOccupied
-occupied-by most sites p a b c = rw (le-leb 1 (p .length) a, le-leb (p .length) most b, lt-ltb (p .site) sites c)
+occupied-by most sites p a b c d e =
+    rw (le-leb 1 (p .length) a, le-leb (p .length) most b, lt-ltb (p .site) sites c, lt-ltb (p .sender) sites d, ne-eqb (p .sender) (p .site) e)
 
 -- and an occupied slot has them
-pub occupied-has : (most sites : ℕ) (p : Parcel) → isOccupied most sites p ≡ true → (1 ≤ p .length) × (p .length ≤ most) × (p .site < sites)
+pub occupied-has : (most sites : ℕ) (p : Parcel) → isOccupied most sites p ≡ true
+    → (1 ≤ p .length) × (p .length ≤ most) × (p .site < sites) × (p .sender < sites) × (p .sender ≡ p .site → ⊥)
 unfolding isOccupied
 occupied-has most sites p h =
     let a = parts (leb 1 (p .length)) _ h in
     let b = parts (leb (p .length) most) _ (a .1) in
-    (leb-true 1 (p .length) (a .0), leb-true (p .length) most (b .0), ltb-true (p .site) sites (b .1))
+    let c = parts (ltb (p .site) sites) _ (b .1) in
+    let d = parts (ltb (p .sender) sites) _ (c .1) in
+    (leb-true 1 (p .length) (a .0), leb-true (p .length) most (b .0), ltb-true (p .site) sites (c .0), ltb-true (p .sender) sites (d .0), eqb-false (p .sender) (p .site) (not-true _ (d .1)))
 
 -- free or occupied, never both
 pub one-of-two : (most sites : ℕ) (p : Parcel) → isFree p || isOccupied most sites p ≡ true → isFree p ≡ not (isOccupied most sites p)
