@@ -4,7 +4,7 @@
 --     is-at, typed-at, val-at      the same of a machine value v that a callee returned, of which the relation is known: v is of the type, and it is `val`
 --     none-is      what is known of the parcel of a free slot
 --     S, s-…       the same of a Scan, of the one that a scan begins with (s-start), and of its last field (free-fits)
---     stride-fits  the byte distance of element i fits a usize: what the MIR's `_k = i * 24` asks
+--     stride-fits  the byte distance of element i fits a usize: what the MIR's `_k = i * 32` asks
 --     placed       what `offset` makes of the pointer and that distance is `Denote/Index.antt`'s place of element i
 -- Assumes nothing.
 use mathlib.Core.Path.{_≡_, refl, sym, ap, subst}
@@ -100,10 +100,10 @@ free-fits s vs is = LL.owed S₀.the-type S′.the-laws s vs is .1 .1 .0 .1
 
 -- the parcel of a free slot
 pub none-is : Is R noParcel (vals noParcel)
-none-is = LL.owes P.the-type P′.the-laws noParcel ((refl, lit< tt), ((refl, lit< tt), ((refl, lit< tt), tt)))
+none-is = LL.owes P.the-type P′.the-laws noParcel ((refl, lit< tt), ((refl, lit< tt), ((refl, lit< tt), ((refl, lit< tt), ((refl, lit< tt), tt)))))
 
-pub stride-fits : (i n : ℕ) → i < n → Room R n → i * 24 < 2 ^ 64
+pub stride-fits : (i n : ℕ) → i < n → Room R n → i * 32 < 2 ^ 64
 stride-fits i n l room = omega (arith, room .1)
 
-pub placed : (o i : ℕ) → i * 24 + o ≡ place 24 o i
-placed o i = sym (place-is 24 o i)
+pub placed : (o i : ℕ) → i * 32 + o ≡ place 32 o i
+placed o i = sym (place-is 32 o i)

@@ -15,14 +15,16 @@ ghost use Rattle.parcels.specs.Turns.{lookOf};
 pub fn is_free(p: Parcel) -> bool
     ensures { λ r. ⌜ r ≡ isFree p ⌝ }
 {
-    (p.site == 0) & ((p.id == 0) & (p.length == 0))
+    (p.site == 0) & ((p.id == 0) & ((p.length == 0) & ((p.sender == 0) & (p.serial == 0))))
 }
 
-// Whether a slot is rightly occupied: its length is one that a table can hold, and its site is one of the run.
+// Whether a slot is rightly occupied: its length is one that a table can hold, its site is one of the run, and its sender is another one.
 pub fn is_occupied(p: Parcel, sites: u64) -> bool
     ensures { λ r. ⌜ r ≡ isOccupied M sites p ⌝ }
 {
-    (1 <= p.length) & ((p.length <= M) & (p.site < sites))
+    let sender = p.sender as u64;
+    (1 <= p.length)
+        & ((p.length <= M) & ((p.site < sites) & ((sender < sites) & (sender != p.site))))
 }
 
 // What a scan knows once it has seen the slot at `at` too. The slots are seen in order, so a free one counts only where none was seen before.
@@ -110,6 +112,8 @@ pub fn read_slot(slots: &[Parcel], at: usize) -> Parcel
             site: 0,
             id: 0,
             length: 0,
+            sender: 0,
+            serial: 0,
         }
     }
 }
@@ -139,6 +143,8 @@ pub fn clear_slots(slots: &mut [Parcel], count: usize)
         site: 0,
         id: 0,
         length: 0,
+        sender: 0,
+        serial: 0,
     };
     let mut next = 0;
     while next < end {

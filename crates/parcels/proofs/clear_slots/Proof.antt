@@ -224,7 +224,7 @@ module _ {M : Type 1} (𝓤 : URA M) (H : Heap 𝓤) (A : Atoms 𝓤) (W : Given
         calls-value ! (fmOf 𝓤 H (W .laws) 𝓣) smaller′.ended (smaller′.clauses 𝓤 H A at-mem run) known (to-smaller 𝓤 H A at-mem run count n) (asked 𝓤 H A at-mem run W count n gc (gn .0))
         (λ r. r ≡ min count n) (λ r e. id⊢ 𝓤 _) (and-then ! (load ! (from ! (stop !)) (look ! 15 refl)) (and-then ! (load ! (from ! (stop !)) (look ! 7 refl)) (no-more !))) (λ r v e is.
         land ! (from ! (stop !)) (init ! 12 refl (num-typed r v is)) $ rewrite ! 12 (λ (u : Val). ‵ (fat fullShare word l₃ 0 u)) (num-at r v is) refl $
-        assigns ! (agg ! (and-then ! (lit ! tt) (and-then ! (lit ! tt) (and-then ! (lit ! tt) (no-more !))))) (from ! (stop !)) (init ! 10 refl (typed 𝓤 H A W noParcel none-is)) $
+        assigns ! (agg ! (and-then ! (lit ! tt) (and-then ! (lit ! tt) (and-then ! (lit ! tt) (and-then ! (lit ! tt) (and-then ! (lit ! tt) (no-more !))))))) (from ! (stop !)) (init ! 10 refl (typed 𝓤 H A W noParcel none-is)) $
         assigns ! (of-opd ! (lit ! tt)) (from ! (stop !)) (init ! 8 refl (tt, record { fits = lit< tt })) $
         move ! (21 ∷ []) $ fsplit ! $ move ! (1 ∷ []) $ drop ! $ fsplit ! $ drop ! $ fsplit ! $ move ! (22 ∷ []) $ split ! $ move ! (1 ∷ []) $ drop ! $ move ! (1 ∷ 2 ∷ 0 ∷ []) $
         looped l₀ l₁ l₂ l₃ l₄ l₅ l₆ l₇ l₈ l₉ r e (begin ys r))))))))))))

@@ -116,7 +116,7 @@ module _ {M : Type 1} (𝓤 : URA M) (H : Heap 𝓤) (A : Atoms 𝓤) (W : Given
           -- the context is `At` again, with _8, _7 and _6 in use
           assigns-last ! (of-opd ! (load ! (from ! (stop !)) (look ! 5 refl))) (from ! (stop !)) (init ! 11 refl (typed 𝓤 H A W slot g)) $ exec ! C Λ En mir.t-4 (atRet En Post) $
           forget ! 5 refl $ forget ! 7 refl $ forget ! 9 refl $ leaves slot refl g)))
-          (λ over. assigns-last ! (agg ! (and-then ! (lit ! tt) (and-then ! (lit ! tt) (and-then ! (lit ! tt) (no-more !))))) (from ! (stop !)) (init ! 11 refl (typed 𝓤 H A W noParcel none-is)) $ exec ! C Λ En mir.t-4 (atRet En Post) $
+          (λ over. assigns-last ! (agg ! (and-then ! (lit ! tt) (and-then ! (lit ! tt) (and-then ! (lit ! tt) (and-then ! (lit ! tt) (and-then ! (lit ! tt) (no-more !))))))) (from ! (stop !)) (init ! 11 refl (typed 𝓤 H A W noParcel none-is)) $ exec ! C Λ En mir.t-4 (atRet En Post) $
           leaves noParcel (sym (List·getD-eq-default ys noParcel (nltb→le i n over))) none-is)
 
     walk : ent 𝓤 (onEntry 𝓤 H A read-slot.signature (κ, tt) (q, tt) x at) (WpFn 𝓤 H C Λ code.function (sliceVal (b, o) n ∷ vint w64 i ∷ []) Post)
