@@ -107,47 +107,47 @@ pub read-is-written : (line : List ℕ) (step : Step) → stepOf line ≡ Is ste
 read-is-written = StepLines.read-step
 
 -- ---- demands 2 and 3: "Start fresh and take any list of steps, refused ones among them."
-module _ (run : Run) (s : State) (fresh : freshRefusal run (length (s .words)) (length (s .slots)) ≡ 0) where
+module _ (run : Run) (first : ℕ) (s : State) (fresh : freshRefusal run (length (s .words)) (length (s .slots)) ≡ 0) where
   abbrev pub start : State
-  start = afterFresh run s
+  start = afterFresh run first s
 
   -- "From a fresh start each counter is the number of accepted steps of its kind"
   pub counters-count : (steps : List Step)
-      → (ran run start steps .ledger .sent ≡ acceptedOf isSend run start steps)
-      × (ran run start steps .ledger .copied ≡ acceptedOf isAgain run start steps)
-      × (ran run start steps .ledger .absorbed ≡ acceptedOf isDeliver run start steps)
-      × (ran run start steps .ledger .lost ≡ acceptedOf isLose run start steps)
+      → (ran run start steps .ledger .counts .sent ≡ acceptedOf isSend run start steps)
+      × (ran run start steps .ledger .counts .copied ≡ acceptedOf isAgain run start steps)
+      × (ran run start steps .ledger .counts .absorbed ≡ acceptedOf isDeliver run start steps)
+      × (ran run start steps .ledger .counts .lost ≡ acceptedOf isLose run start steps)
   counters-count steps = (
-    Counting.sent-is-counted run s fresh steps,
-    Counting.copied-is-counted run s fresh steps,
-    Counting.absorbed-is-counted run s fresh steps,
-    Counting.lost-is-counted run s fresh steps,
+    Counting.sent-is-counted run first s fresh steps,
+    Counting.copied-is-counted run first s fresh steps,
+    Counting.absorbed-is-counted run first s fresh steps,
+    Counting.lost-is-counted run first s fresh steps,
   )
 
   -- "sent + copied = absorbed + lost + waiting"
   pub books-balance : (steps : List Step)
-      → ran run start steps .ledger .sent + ran run start steps .ledger .copied
-      ≡ ran run start steps .ledger .absorbed + ran run start steps .ledger .lost + waiting (ran run start steps .slots)
-  books-balance = Counting.books-balance run s fresh
+      → ran run start steps .ledger .counts .sent + ran run start steps .ledger .counts .copied
+      ≡ ran run start steps .ledger .counts .absorbed + ran run start steps .ledger .counts .lost + waiting (ran run start steps .slots)
+  books-balance = Counting.books-balance run first s fresh
 
   -- no step of the run is refused with 1 or with 2
   pub never-1-or-2 : (before : List Step) (step : Step) → (refusalOf run (ran run start before) step ≡ 1 → ⊥) × (refusalOf run (ran run start before) step ≡ 2 → ⊥)
-  never-1-or-2 before step = (Counting.never-1 run s fresh before step, Counting.never-2 run s fresh before step)
+  never-1-or-2 before step = (Counting.never-1 run first s fresh before step, Counting.never-2 run first s fresh before step)
 
   -- "For each site and id, the length held is the largest it has absorbed .., or zero if none."
   pub held-is-largest-absorbed : (steps : List Step) (k e : ℕ) → lengthOf (tableAt run (ran run start steps .words) k) e ≡ largest (absorbed run start k steps) e
-  held-is-largest-absorbed = Absorbing.held-is-largest run s fresh
+  held-is-largest-absorbed = Absorbing.held-is-largest run first s fresh
 
   -- "So two sites in one run that absorbed the same set of id and length pairs, in whichever order and however often, hold equal tables."
   pub same-pairs-same-tables : (steps : List Step) (j k : ℕ) → j < run .sites → k < run .sites
       → samePairs (absorbed run start j steps) (absorbed run start k steps) ≡ true
       → tableAt run (ran run start steps .words) j ≡ tableAt run (ran run start steps .words) k
-  same-pairs-same-tables = Absorbing.same-pairs-same-tables run s fresh
+  same-pairs-same-tables = Absorbing.same-pairs-same-tables run first s fresh
 
   -- "And a site that is offered, over the whole run .., no more distinct ids than a table holds never refuses one for lack of room."
   pub room-suffices : (before : List Step) (step : Step) (rest : List Step) (k : ℕ) → k < run .sites → siteIn run (sightOf run (ran run start before) step) step ≡ k
       → distinct (offered run start k (before ++ (step ∷ rest))) ≤ run .capacity → refusalOf run (ran run start before) step ≡ 8 → ⊥
-  room-suffices = Room.room-suffices run s fresh
+  room-suffices = Room.room-suffices run first s fresh
 
 -- "It never falls": at no step, in no state
 pub never-falls : (run : Run) (s : State) (step : Step) (k e : ℕ) → lengthOf (tableAt run (s .words) k) e ≤ lengthOf (tableAt run (after run s step .words) k) e
@@ -177,7 +177,8 @@ pub step-determined : (run : Run) (before : State) (step : Step) {r r′ : Answe
     → Stepped run before step r left → Stepped run before step r′ left′ → (r ≡ r′) × (left ≡ left′)
 step-determined = Determined.stepped-determined
 
-pub fresh-determined : (run : Run) (before : State) {r r′ : ℕ} {left left′ : State} → Freshened run before r left → Freshened run before r′ left′ → (r ≡ r′) × (left ≡ left′)
+pub fresh-determined : (run : Run) (first : ℕ) (before : State) {r r′ : ℕ} {left left′ : State}
+    → Freshened run first before r left → Freshened run first before r′ left′ → (r ≡ r′) × (left ≡ left′)
 fresh-determined = Determined.freshened-determined
 
 pub call-determined : (run : Run) (before : State) (kind first second id : ℕ) {r r′ v v′ : ℕ} {left left′ : State}

@@ -4,7 +4,8 @@
 use Prim.Native.Nat.{ℕ}
 use mathlib.Core.Bool.{Bool, true, false, _&&_, not}
 use mathlib.Core.Path.{_≡_, refl}
-use mathlib.Core.List.{List, [], _∷_}
+use mathlib.Core.List.{List, [], _∷_, _++_}
+use lib.ListN.{replicate}
 use lib.Dec.{eqb, ltb}
 use Rattle.rules.specs.declared.Found.{Found}
 use Rattle.rules.specs.declared.Found.the-variants.{At, Absent}
@@ -13,13 +14,17 @@ use Rattle.rules.specs.meaning.Lengths.{M, listed, afterAdd, afterRemove
 use Rattle.rules.specs.meaning.Table.{unused, soundFrom, sound, lengthOf, held, shown, countBelow, rank, foundOf, push, withLength, raised, heldWith, merged, newIds, rises}
 use Rattle.rules.specs.declared.Run.{Run}
 use Rattle.rules.specs.declared.Parcel.{Parcel}
+use Rattle.rules.specs.declared.Pair.{Pair}
+use Rattle.rules.specs.declared.Counts.{Counts}
 use Rattle.rules.specs.declared.Ledger.{Ledger}
 use Rattle.rules.specs.declared.Step.{Step}
 use Rattle.rules.specs.declared.Step.the-variants.{Add, Send, Merge, Deliver, Again, Lose}
 use Rattle.rules.specs.meaning.Parcels.{noParcel, isFree, isOccupied, slotsSound, waiting, lowestFree, cleared}
-use Rattle.rules.specs.meaning.Ledgers.{ledgerSound, emptyLedger, oneMore, raisedIf}
+use Rattle.rules.specs.meaning.Ledgers.{countsSound, noCounts, oneMore, raisedIf}
 use Rattle.rules.specs.meaning.Refusals.{firstGiven}
-use Rattle.rules.specs.meaning.Kinds.{slotOf, numbers}
+use Rattle.rules.specs.meaning.Serials.{nextSerial, isNewer, ahead, isOrdered}
+use Rattle.rules.specs.meaning.Links.{startPair, linkBetween, pairSound, overRow, overRows, linksSound, linksBegun, movesOn, heardPair, incomparable}
+use Rattle.rules.specs.meaning.Kinds.{slotOf, linkOf, numbers}
 use Rattle.rules.specs.meaning.States.{State, lent, tableAt, withTable, sizesRight, tablesSound, allSound}
 use Rattle.rules.specs.meaning.Steps.{effect}
 use Rattle.rules.specs.meaning.Runs.{refusalIn, refusalOf, valueOf, answerOf, after, freshRefusal, afterFresh}
@@ -74,25 +79,51 @@ seven-eight-nine = 7 ∷ 2 ∷ 8 ∷ 3 ∷ 9 ∷ 1 ∷ []
 abbrev pub two-sites : Run
 two-sites = record { sites = 2; capacity = 1 }
 
-abbrev pub ledger-of : ℕ → ℕ → ℕ → ℕ → Ledger
-ledger-of s c a l = record { sent = s; copied = c; absorbed = a; lost = l }
+abbrev pub counts-of : ℕ → ℕ → ℕ → ℕ → Counts
+counts-of s c a l = record { sent = s; copied = c; absorbed = a; lost = l }
 
+-- the entry of a link
+abbrev pub pair : ℕ → ℕ → ℕ → ℕ → Pair
+pair n h s u = record { next = n; heard = h; unsent = s; unheard = u }
+
+-- 256 entries, with that of site 0 to site 1, and noise in each other one, which nobody looks at in a run of two sites but that of site 1 to site 0
+abbrev pub noise : Pair
+noise = pair 5 6 7 8
+
+abbrev pub entries : Pair → List Pair
+entries p = noise ∷ p ∷ (replicate 14 noise ++ (startPair 9 ∷ replicate 239 noise))
+
+abbrev pub ledger-with : Counts → Pair → Ledger
+ledger-with c p = record { counts = c; pairs = entries p }
+
+-- the counts, where site 0 has sent site 1 the serial 3, which was not heard
+abbrev pub one-sent : Pair
+one-sent = pair 4 0 0 1
+
+abbrev pub ledger-of : ℕ → ℕ → ℕ → ℕ → Ledger
+ledger-of s c a l = ledger-with (counts-of s c a l) one-sent
+
+-- the same where it was heard
+abbrev pub ledger-heard : ℕ → ℕ → ℕ → ℕ → Ledger
+ledger-heard s c a l = ledger-with (counts-of s c a l) (pair 4 3 0 0)
+
+-- from site 0, with the serial 3
 abbrev pub parcel : ℕ → ℕ → ℕ → Parcel
-parcel k e n = record { site = k; id = e; length = n }
+parcel k e n = record { site = k; id = e; length = n; sender = 0; serial = 3 }
 
 -- nothing anywhere; 7 at site 0; 7 at site 0 and 8 at site 1, each table full
 abbrev pub nothing : State
-nothing = lent (0 ∷ 0 ∷ 0 ∷ 0 ∷ []) (noParcel ∷ []) emptyLedger
+nothing = lent (0 ∷ 0 ∷ 0 ∷ 0 ∷ []) (noParcel ∷ []) (ledger-with noCounts (startPair 9))
 
 abbrev pub seven-at-0 : State
-seven-at-0 = lent (7 ∷ 1 ∷ 0 ∷ 0 ∷ []) (noParcel ∷ []) emptyLedger
+seven-at-0 = lent (7 ∷ 1 ∷ 0 ∷ 0 ∷ []) (noParcel ∷ []) (ledger-with noCounts (startPair 3))
 
 -- the same with a parcel (1, e, n) waiting, and with the counts
 abbrev pub waiting-for-1 : ℕ → ℕ → Ledger → State
 waiting-for-1 e n l = lent (7 ∷ 1 ∷ 8 ∷ 1 ∷ []) (parcel 1 e n ∷ []) l
 
 abbrev pub same-parcel : Parcel → Parcel → Bool
-same-parcel p q = eqb (p .site) (q .site) && (eqb (p .id) (q .id) && eqb (p .length) (q .length))
+same-parcel p q = eqb (p .site) (q .site) && (eqb (p .id) (q .id) && (eqb (p .length) (q .length) && (eqb (p .sender) (q .sender) && eqb (p .serial) (q .serial))))
 
 abbrev pub same-slots : List Parcel → List Parcel → Bool
 same-slots [] [] = true
@@ -100,8 +131,20 @@ same-slots [] (q ∷ qs) = false
 same-slots (p ∷ ps) [] = false
 same-slots (p ∷ ps) (q ∷ qs) = same-parcel p q && same-slots ps qs
 
+abbrev pub same-counts : Counts → Counts → Bool
+same-counts c d = eqb (c .sent) (d .sent) && (eqb (c .copied) (d .copied) && (eqb (c .absorbed) (d .absorbed) && eqb (c .lost) (d .lost)))
+
+abbrev pub same-pair : Pair → Pair → Bool
+same-pair p q = eqb (p .next) (q .next) && (eqb (p .heard) (q .heard) && (eqb (p .unsent) (q .unsent) && eqb (p .unheard) (q .unheard)))
+
+abbrev pub same-entries : List Pair → List Pair → Bool
+same-entries [] [] = true
+same-entries [] (q ∷ qs) = false
+same-entries (p ∷ ps) [] = false
+same-entries (p ∷ ps) (q ∷ qs) = same-pair p q && same-entries ps qs
+
 abbrev pub same-ledger : Ledger → Ledger → Bool
-same-ledger l m = eqb (l .sent) (m .sent) && (eqb (l .copied) (m .copied) && (eqb (l .absorbed) (m .absorbed) && eqb (l .lost) (m .lost)))
+same-ledger l m = same-counts (l .counts) (m .counts) && same-entries (l .pairs) (m .pairs)
 
 abbrev pub same-state : State → State → Bool
 same-state s t = same (s .words) (t .words) && (same-slots (s .slots) (t .slots) && same-ledger (s .ledger) (t .ledger))
@@ -160,17 +203,17 @@ cases =
     ∷ eqb (rises (seven 1) (seven 1)) 0 ∷ eqb (rises (seven 1) (seven 2)) 1
     -- P10 in a run: a delivery refused with 8 leaves its parcel waiting; one of an id that is held is accepted, counted, and frees its slot
     ∷ step-refused two-sites (waiting-for-1 9 1 (ledger-of 1 0 0 0)) (Deliver 0) 8
-    ∷ step-taken two-sites (waiting-for-1 8 2 (ledger-of 1 0 0 0)) (Deliver 0) 2 (lent (7 ∷ 1 ∷ 8 ∷ 2 ∷ []) (noParcel ∷ []) (ledger-of 1 0 1 0))
+    ∷ step-taken two-sites (waiting-for-1 8 2 (ledger-of 1 0 0 0)) (Deliver 0) 2 (lent (7 ∷ 1 ∷ 8 ∷ 2 ∷ []) (noParcel ∷ []) (ledger-heard 1 0 1 0))
     -- a stale update is absorbed and counted too; a lost one is counted as lost
-    ∷ step-taken two-sites (waiting-for-1 8 1 (ledger-of 1 0 0 0)) (Deliver 0) 1 (lent (7 ∷ 1 ∷ 8 ∷ 1 ∷ []) (noParcel ∷ []) (ledger-of 1 0 1 0))
+    ∷ step-taken two-sites (waiting-for-1 8 1 (ledger-of 1 0 0 0)) (Deliver 0) 1 (lent (7 ∷ 1 ∷ 8 ∷ 1 ∷ []) (noParcel ∷ []) (ledger-heard 1 0 1 0))
     ∷ step-taken two-sites (waiting-for-1 8 1 (ledger-of 1 0 0 0)) (Lose 0) 0 (lent (7 ∷ 1 ∷ 8 ∷ 1 ∷ []) (noParcel ∷ []) (ledger-of 1 0 0 1))
     -- send puts the sender's length into the lowest free slot; again copies it; merge changes the second site
     ∷ step-taken two-sites seven-at-0 (Send 0 1 7) 0 (lent (7 ∷ 1 ∷ 0 ∷ 0 ∷ []) (parcel 1 7 1 ∷ []) (ledger-of 1 0 0 0))
     ∷ step-taken two-sites (lent (7 ∷ 1 ∷ 0 ∷ 0 ∷ []) (noParcel ∷ parcel 1 7 1 ∷ noParcel ∷ []) (ledger-of 1 0 0 0)) (Again 1) 0 (lent (7 ∷ 1 ∷ 0 ∷ 0 ∷ []) (parcel 1 7 1 ∷ parcel 1 7 1 ∷ noParcel ∷ []) (ledger-of 1 1 0 0))
-    ∷ step-taken two-sites seven-at-0 (Merge 0 1) 1 (lent (7 ∷ 1 ∷ 7 ∷ 1 ∷ []) (noParcel ∷ []) emptyLedger)
+    ∷ step-taken two-sites seven-at-0 (Merge 0 1) 1 (lent (7 ∷ 1 ∷ 7 ∷ 1 ∷ []) (noParcel ∷ []) (ledger-with noCounts (startPair 3)))
     -- the order of the refusals: each state would also earn the later number
-    ∷ step-refused (record { sites = 2; capacity = 2 }) (lent (7 ∷ 0 ∷ 0 ∷ 0 ∷ []) (noParcel ∷ []) emptyLedger) (Add 9 7) 1
-    ∷ step-refused two-sites (lent (7 ∷ 0 ∷ 0 ∷ 0 ∷ []) (noParcel ∷ []) emptyLedger) (Add 9 7) 2
+    ∷ step-refused (record { sites = 2; capacity = 2 }) (lent (7 ∷ 0 ∷ 0 ∷ 0 ∷ []) (noParcel ∷ []) (ledger-with noCounts noise)) (Add 9 7) 1
+    ∷ step-refused two-sites (lent (7 ∷ 0 ∷ 0 ∷ 0 ∷ []) (noParcel ∷ []) (ledger-with noCounts noise)) (Add 9 7) 2
     ∷ step-refused two-sites nothing (Send 5 5 7) 3 ∷ step-refused two-sites nothing (Merge 5 5) 3
     ∷ step-refused two-sites nothing (Send 0 0 7) 4
     ∷ step-refused two-sites (waiting-for-1 8 1 (ledger-of 1 0 0 0)) (Send 0 1 9) 6
@@ -182,10 +225,10 @@ cases =
     ∷ step-refused two-sites nothing (Deliver 0) 5 ∷ step-refused two-sites nothing (Lose 1) 5
     ∷ step-refused two-sites seven-at-0 (Add 0 8) 8
     -- a fresh run judges the sizes alone
-    ∷ same-state (afterFresh two-sites (waiting-for-1 9 0 (ledger-of 5 5 5 5))) nothing
+    ∷ same-state (afterFresh two-sites 9 (waiting-for-1 9 0 (ledger-of 5 5 5 5))) nothing
     ∷ eqb (freshRefusal (record { sites = 17; capacity = 0 }) 0 0) 1 ∷ eqb (freshRefusal (record { sites = 16; capacity = 0 }) 0 1024) 0
     ∷ []
 
 pub cases-hold : all cases ≡ true
-unfolding cases listed afterAdd afterRemove unused soundFrom lengthOf held shown countBelow rank push withLength raised heldWith merged newIds rises raiseRefusal raiseAnswer raiseTable removedLength removeRefusal removeTable mergeRefusal mergeAnswer mergeTable isFree isOccupied slotsSound waiting lowestFree cleared ledgerSound oneMore raisedIf tableAt withTable sizesRight tablesSound allSound slotOf numbers firstGiven refusalIn effect refusalOf valueOf after freshRefusal afterFresh put bitsOf bytesOf answersOf membersRefusal membersAfter
+unfolding cases listed afterAdd afterRemove unused soundFrom lengthOf held shown countBelow rank push withLength raised heldWith merged newIds rises raiseRefusal raiseAnswer raiseTable removedLength removeRefusal removeTable mergeRefusal mergeAnswer mergeTable isFree isOccupied slotsSound waiting lowestFree cleared countsSound oneMore raisedIf tableAt withTable sizesRight tablesSound allSound slotOf numbers firstGiven refusalIn effect refusalOf valueOf after freshRefusal afterFresh linkOf linkBetween pairSound overRow overRows linksSound linksBegun movesOn heardPair incomparable nextSerial isNewer ahead isOrdered put bitsOf bytesOf answersOf membersRefusal membersAfter
 cases-hold = refl

@@ -12,9 +12,11 @@ use Rattle.rules.specs.meaning.Lengths.{listed, afterAdd, afterRemove}
 use Rattle.rules.specs.meaning.Table.{unused, soundFrom, lengthOf, held, shown, push, withLength, raised, heldWith, merged, newIds, rises}
 use Rattle.rules.specs.meaning.Operations.{raiseRefusal, raiseTable, removeRefusal, removeTable, mergeRefusal, mergeTable}
 use Rattle.rules.specs.meaning.Parcels.{isFree, isOccupied, slotsSound, waiting, lowestFree}
-use Rattle.rules.specs.meaning.Ledgers.{ledgerSound, oneMore, raisedIf}
+use Rattle.rules.specs.meaning.Ledgers.{countsSound, oneMore, raisedIf}
 use Rattle.rules.specs.meaning.Refusals.{firstGiven}
-use Rattle.rules.specs.meaning.Kinds.{slotOf, numbers}
+use Rattle.rules.specs.meaning.Serials.{nextSerial, isNewer, ahead, isOrdered}
+use Rattle.rules.specs.meaning.Links.{linkBetween, pairSound, overRow, overRows, linksSound, movesOn, heardPair, incomparable}
+use Rattle.rules.specs.meaning.Kinds.{slotOf, linkOf, numbers}
 use Rattle.rules.specs.meaning.States.{tableAt, withTable, sizesRight, tablesSound, allSound}
 use Rattle.rules.specs.meaning.Steps.{effect}
 use Rattle.rules.specs.meaning.Runs.{refusalIn, refusalOf, valueOf, after}
@@ -53,7 +55,7 @@ sample-fits = refl
 
 -- what those steps say
 sample-said : stepsFrom 1 reportStart sampleSteps ≡ sampleOutput
-unfolding stepsFrom listed afterAdd afterRemove unused soundFrom lengthOf held shown push withLength raised heldWith merged newIds rises raiseRefusal raiseTable removeRefusal removeTable mergeRefusal mergeTable isFree isOccupied slotsSound waiting lowestFree ledgerSound oneMore raisedIf tableAt withTable sizesRight tablesSound allSound slotOf numbers firstGiven refusalIn effect refusalOf valueOf after digits upTo refusedLine queryLine ledgerLines siteLine siteLines endLines acceptedLine saidOf
+unfolding stepsFrom listed afterAdd afterRemove unused soundFrom lengthOf held shown push withLength raised heldWith merged newIds rises raiseRefusal raiseTable removeRefusal removeTable mergeRefusal mergeTable isFree isOccupied slotsSound waiting lowestFree countsSound oneMore raisedIf tableAt withTable sizesRight tablesSound allSound slotOf numbers firstGiven refusalIn effect refusalOf valueOf after linkOf linkBetween pairSound overRow overRows linksSound movesOn heardPair incomparable nextSerial isNewer ahead isOrdered digits upTo refusedLine queryLine ledgerLines siteLine siteLines endLines acceptedLine saidOf
 sample-said = refl
 
 -- "Whole output": the report of the sample's input is the sample's output, byte for byte
@@ -87,7 +89,7 @@ pub record ReportCases : Type 0 where
       ++ ascii "sent=1\ncopied=0\nabsorbed=0\nlost=0\nwaiting=1\nnode=0 held=1 shown=1\nnode=1 held=0 shown=0\nnode=2 held=0 shown=0\n"
 
 pub report-cases : ReportCases
-unfolding unbroken joined allUnbroken piecesFrom listed afterAdd afterRemove unused soundFrom lengthOf held shown push withLength raised heldWith merged newIds rises raiseRefusal raiseTable removeRefusal removeTable mergeRefusal mergeTable isFree isOccupied slotsSound waiting lowestFree ledgerSound oneMore raisedIf tableAt withTable sizesRight tablesSound allSound slotOf numbers firstGiven refusalIn effect refusalOf valueOf after behind upTo digits digitOf digitRun fair judged readNumber lead namesStep firstOf kindOf readField numbersOf stepFor stepIn stepOf refusedLine queryLine ledgerLines siteLine siteLines endLines acceptedLine saidOf namedAfter lastPiece
+unfolding unbroken joined allUnbroken piecesFrom listed afterAdd afterRemove unused soundFrom lengthOf held shown push withLength raised heldWith merged newIds rises raiseRefusal raiseTable removeRefusal removeTable mergeRefusal mergeTable isFree isOccupied slotsSound waiting lowestFree countsSound oneMore raisedIf tableAt withTable sizesRight tablesSound allSound slotOf numbers firstGiven refusalIn effect refusalOf valueOf after linkOf linkBetween pairSound overRow overRows linksSound movesOn heardPair incomparable nextSerial isNewer ahead isOrdered behind upTo digits digitOf digitRun fair judged readNumber lead namesStep firstOf kindOf readField numbersOf stepFor stepIn stepOf refusedLine queryLine ledgerLines siteLine siteLines endLines acceptedLine saidOf namedAfter lastPiece
 report-cases = record {
   nothing = report-of-pieces [] [] refl refl;
   empty-line = report-of-pieces ([] ∷ []) [] refl refl;

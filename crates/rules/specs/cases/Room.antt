@@ -12,9 +12,11 @@ use Rattle.rules.specs.meaning.Lengths.{listed, afterAdd, afterRemove}
 use Rattle.rules.specs.meaning.Table.{unused, soundFrom, lengthOf, held, push, withLength, raised, heldWith, merged, newIds, rises}
 use Rattle.rules.specs.meaning.Operations.{raiseRefusal, raiseTable, removeRefusal, removeTable, mergeRefusal, mergeTable}
 use Rattle.rules.specs.meaning.Parcels.{isFree, isOccupied, slotsSound, waiting, lowestFree, cleared}
-use Rattle.rules.specs.meaning.Ledgers.{ledgerSound, oneMore, raisedIf}
+use Rattle.rules.specs.meaning.Ledgers.{countsSound, oneMore, raisedIf}
 use Rattle.rules.specs.meaning.Refusals.{firstGiven}
-use Rattle.rules.specs.meaning.Kinds.{slotOf, numbers}
+use Rattle.rules.specs.meaning.Serials.{nextSerial, isNewer, ahead, isOrdered}
+use Rattle.rules.specs.meaning.Links.{linkBetween, pairSound, overRow, overRows, linksSound, linksBegun, movesOn, heardPair, incomparable}
+use Rattle.rules.specs.meaning.Kinds.{slotOf, linkOf, numbers}
 use Rattle.rules.specs.meaning.States.{State, tableAt, withTable, sizesRight, tablesSound, allSound, sightOf}
 use Rattle.rules.specs.meaning.Steps.{siteIn, idsOf, effect}
 use Rattle.rules.specs.meaning.Runs.{refusalIn, refusalOf, after, freshRefusal, afterFresh}
@@ -46,16 +48,16 @@ all-steps = first-steps ++ (Merge 0 1 ∷ last-steps)
 -- place; site 0 is offered 7 and 8
 pub record RoomMet : Type 0 where
   pub made : freshRefusal two-sites (length (stood .words)) (length (stood .slots)) ≡ 0
-  pub refused : refusals two-sites (afterFresh two-sites stood) all-steps ≡ 0 ∷ 0 ∷ 9 ∷ 0 ∷ 4 ∷ 0 ∷ 0 ∷ 8 ∷ []
-  pub gains : siteIn two-sites (sightOf two-sites (ran two-sites (afterFresh two-sites stood) first-steps) (Merge 0 1)) (Merge 0 1) ≡ 1
-  pub offers : offered two-sites (afterFresh two-sites stood) 1 all-steps ≡ 7 ∷ 7 ∷ 7 ∷ 7 ∷ []
-  pub one-id : distinct (offered two-sites (afterFresh two-sites stood) 1 all-steps) ≡ 1
-  pub two-ids : distinct (offered two-sites (afterFresh two-sites stood) 0 all-steps) ≡ 2
+  pub refused : refusals two-sites (afterFresh two-sites 0 stood) all-steps ≡ 0 ∷ 0 ∷ 9 ∷ 0 ∷ 4 ∷ 0 ∷ 0 ∷ 8 ∷ []
+  pub gains : siteIn two-sites (sightOf two-sites (ran two-sites (afterFresh two-sites 0 stood) first-steps) (Merge 0 1)) (Merge 0 1) ≡ 1
+  pub offers : offered two-sites (afterFresh two-sites 0 stood) 1 all-steps ≡ 7 ∷ 7 ∷ 7 ∷ 7 ∷ []
+  pub one-id : distinct (offered two-sites (afterFresh two-sites 0 stood) 1 all-steps) ≡ 1
+  pub two-ids : distinct (offered two-sites (afterFresh two-sites 0 stood) 0 all-steps) ≡ 2
 
 pub room-met : RoomMet
-unfolding refusals ran siteIn effect idsOf offeredIn offered among distinct listed afterAdd afterRemove unused soundFrom lengthOf held push withLength raised heldWith merged newIds rises raiseRefusal raiseTable removeRefusal removeTable mergeRefusal mergeTable isFree isOccupied slotsSound waiting lowestFree cleared ledgerSound oneMore raisedIf tableAt withTable sizesRight tablesSound allSound slotOf numbers firstGiven refusalIn refusalOf after freshRefusal afterFresh
+unfolding refusals ran siteIn effect idsOf offeredIn offered among distinct listed afterAdd afterRemove unused soundFrom lengthOf held push withLength raised heldWith merged newIds rises raiseRefusal raiseTable removeRefusal removeTable mergeRefusal mergeTable isFree isOccupied slotsSound waiting lowestFree cleared countsSound oneMore raisedIf tableAt withTable sizesRight tablesSound allSound slotOf numbers firstGiven refusalIn refusalOf after freshRefusal afterFresh linkOf linkBetween pairSound overRow overRows linksSound linksBegun movesOn heardPair incomparable nextSerial isNewer ahead isOrdered
 room-met = record { made = refl; refused = refl; gains = refl; offers = refl; one-id = refl; two-ids = refl }
 
 -- so the promise speaks of it
-pub room-kept : refusalOf two-sites (ran two-sites (afterFresh two-sites stood) first-steps) (Merge 0 1) ≡ 8 → ⊥
-room-kept = room-suffices two-sites stood (room-met .made) first-steps (Merge 0 1) last-steps 1 (le-refl 2) (room-met .gains) (rw (room-met .one-id) (le-refl 1))
+pub room-kept : refusalOf two-sites (ran two-sites (afterFresh two-sites 0 stood) first-steps) (Merge 0 1) ≡ 8 → ⊥
+room-kept = room-suffices two-sites 0 stood (room-met .made) first-steps (Merge 0 1) last-steps 1 (le-refl 2) (room-met .gains) (rw (room-met .one-id) (le-refl 1))

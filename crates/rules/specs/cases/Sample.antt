@@ -16,18 +16,20 @@ use Rattle.rules.specs.meaning.Table.{unused, soundFrom, lengthOf, held,
 use Rattle.rules.specs.laws.table.View.{parts}
 use Rattle.rules.specs.meaning.Operations.{raiseRefusal, raiseTable, removeRefusal, removeTable, mergeRefusal, mergeTable}
 use Rattle.rules.specs.meaning.Parcels.{noParcel, isFree, isOccupied, slotsSound, waiting, lowestFree, cleared}
-use Rattle.rules.specs.meaning.Ledgers.{ledgerSound, emptyLedger, oneMore, raisedIf}
+use Rattle.rules.specs.meaning.Ledgers.{countsSound, oneMore, raisedIf}
 use Rattle.rules.specs.meaning.Refusals.{firstGiven}
-use Rattle.rules.specs.meaning.Kinds.{slotOf, isSend, isAgain, isDeliver, isLose, numbers}
+use Rattle.rules.specs.meaning.Serials.{nextSerial, isNewer, ahead, isOrdered}
+use Rattle.rules.specs.meaning.Links.{pairAt, startPair, linkBetween, pairSound, overRow, overRows, linksSound, linksBegun, movesOn, heardPair, incomparable}
+use Rattle.rules.specs.meaning.Kinds.{slotOf, linkOf, isSend, isAgain, isDeliver, isLose, numbers}
 use Rattle.rules.specs.meaning.States.{State, lent, tableAt, withTable, sizesRight, tablesSound, allSound}
 use Rattle.rules.specs.meaning.Steps.{Entry, entriesOf, siteIn, idsOf, effect}
 use Rattle.rules.specs.meaning.Runs.{refusalIn, refusalOf, valueOf, answerOf, after, freshRefusal, afterFresh}
 use Rattle.rules.specs.meaning.Histories.{ran, acceptedOf, absorbedIn, absorbed, largest, occurs, within, samePairs, offeredIn, offered, among, distinct}
-use Rattle.rules.specs.cases.Marked.{all, same, ledger-of, parcel, same-ledger}
+use Rattle.rules.specs.cases.Marked.{all, same, counts-of, ledger-of, parcel, pair, same-counts, same-pair}
 
 -- a pair of an id and a length
-abbrev pub pair : ℕ → ℕ → Entry
-pair e n = record { id = e; length = n }
+abbrev pub entry : ℕ → ℕ → Entry
+entry e n = record { id = e; length = n }
 
 -- two lists of pairs are the same, in order
 abbrev pub same-pairs : List Entry → List Entry → Bool
@@ -51,7 +53,7 @@ sampleRun = record { sites = 3; capacity = 8 }
 
 -- made fresh where other things stood before
 abbrev pub sampleStart : State
-sampleStart = afterFresh sampleRun (lent (replicate 48 5) (replicate 8 (parcel 1 2 3)) (ledger-of 9 9 9 9))
+sampleStart = afterFresh sampleRun 0 (lent (replicate 48 5) (replicate 8 (parcel 1 2 3)) (ledger-of 9 9 9 9))
 
 abbrev pub sampleSteps : List Step
 sampleSteps =
@@ -63,13 +65,13 @@ sampleEnd = ran sampleRun sampleStart sampleSteps
 
 -- what each site absorbs, in order
 abbrev pub absorbed0 : List Entry
-absorbed0 = pair 7 1 ∷ pair 7 2 ∷ []
+absorbed0 = entry 7 1 ∷ entry 7 2 ∷ []
 
 abbrev pub absorbed1 : List Entry
-absorbed1 = pair 7 1 ∷ pair 7 2 ∷ pair 7 3 ∷ pair 7 2 ∷ []
+absorbed1 = entry 7 1 ∷ entry 7 2 ∷ entry 7 3 ∷ entry 7 2 ∷ []
 
 abbrev pub absorbed2 : List Entry
-absorbed2 = pair 7 1 ∷ pair 7 2 ∷ pair 7 3 ∷ pair 7 4 ∷ []
+absorbed2 = entry 7 1 ∷ entry 7 2 ∷ entry 7 3 ∷ entry 7 4 ∷ []
 
 -- what each site is offered: its adds, what is delivered to it, and the ids of the table merged into it. The refused delivery offers nothing,
 -- since its slot is free
@@ -118,8 +120,11 @@ sampleCases =
     ∷ same (values sampleRun sampleStart sampleSteps) (1 ∷ 1 ∷ 0 ∷ 1 ∷ 2 ∷ 2 ∷ 2 ∷ 3 ∷ 0 ∷ 1 ∷ 3 ∷ 0 ∷ 0 ∷ 1 ∷ 4 ∷ 3 ∷ 4 ∷ [])
     ∷ listed 3 ∷ not (listed 4)
     -- sent=2 copied=1 absorbed=2 lost=1 waiting=0, each the number of accepted steps of its kind
-    ∷ same-ledger (sampleEnd .ledger) (ledger-of 2 1 2 1) ∷ eqb (waiting (sampleEnd .slots)) 0
+    ∷ same-counts (sampleEnd .ledger .counts) (counts-of 2 1 2 1) ∷ eqb (waiting (sampleEnd .slots)) 0
     ∷ eqb (sampleCount isSend) 2 ∷ eqb (sampleCount isAgain) 1 ∷ eqb (sampleCount isDeliver) 2 ∷ eqb (sampleCount isLose) 1
+    -- "The report starts each pair at 0": one serial was sent and heard from site 0 to 1 and from 1 to 2, and none from 2 to 0
+    ∷ same-pair (pairAt 0 1 (sampleEnd .ledger .pairs)) (pair 1 0 0 0) ∷ same-pair (pairAt 1 2 (sampleEnd .ledger .pairs)) (pair 1 0 0 0)
+    ∷ same-pair (pairAt 2 0 (sampleEnd .ledger .pairs)) (startPair 0)
     -- each site shows 1: the tables it ends with, and their number of entries
     ∷ same (endTable 0) (only-seven 2) ∷ same (endTable 1) (only-seven 3) ∷ same (endTable 2) (only-seven 4)
     ∷ eqb (held (endTable 0)) 1 ∷ eqb (held (endTable 1)) 1 ∷ eqb (held (endTable 2)) 1
@@ -127,7 +132,7 @@ sampleCases =
 
 -- document 01's sample run is what the definitions make of its steps: refusals, values, counters, tables, what is absorbed and what is offered
 pub sample-holds : all sampleCases ≡ true
-unfolding sampleCases refusals values listed afterAdd afterRemove unused soundFrom lengthOf held push withLength raised heldWith merged newIds rises raiseRefusal raiseTable removeRefusal removeTable mergeRefusal mergeTable isFree isOccupied slotsSound waiting lowestFree cleared ledgerSound oneMore raisedIf tableAt withTable sizesRight tablesSound allSound slotOf numbers firstGiven refusalIn effect refusalOf valueOf after freshRefusal afterFresh ran acceptedOf entriesOf siteIn absorbedIn absorbed largest occurs within idsOf offeredIn offered among distinct
+unfolding sampleCases refusals values listed afterAdd afterRemove unused soundFrom lengthOf held push withLength raised heldWith merged newIds rises raiseRefusal raiseTable removeRefusal removeTable mergeRefusal mergeTable isFree isOccupied slotsSound waiting lowestFree cleared countsSound oneMore raisedIf tableAt withTable sizesRight tablesSound allSound slotOf numbers firstGiven refusalIn effect refusalOf valueOf after freshRefusal afterFresh linkOf linkBetween pairSound overRow overRows linksSound linksBegun movesOn heardPair incomparable nextSerial isNewer ahead isOrdered ran acceptedOf entriesOf siteIn absorbedIn absorbed largest occurs within idsOf offeredIn offered among distinct
 sample-holds = refl
 
 -- ---- "two sites in one run that absorbed the same set of id and length pairs, in whichever order and however often": such a run
@@ -135,7 +140,7 @@ abbrev pub pairRun : Run
 pairRun = record { sites = 2; capacity = 2 }
 
 abbrev pub pairStart : State
-pairStart = afterFresh pairRun (lent (replicate 8 0) (replicate 1 noParcel) emptyLedger)
+pairStart = afterFresh pairRun 0 (lent (replicate 8 0) (replicate 1 noParcel) (ledger-of 0 0 0 0))
 
 -- site 0 publishes and withdraws 7; site 1 gets the withdrawal by a merge and the publishing after it, by a late parcel
 abbrev pub pairSteps : List Step
@@ -153,15 +158,15 @@ pairCases =
     -- the same set of pairs, and the same table
     samePairs (pairAbsorbed 0) (pairAbsorbed 1) ∷ same (pairTable 0) (pairTable 1)
     -- the pairs themselves, every step accepted, and the words at the end
-    ∷ same-pairs (pairAbsorbed 0) (pair 7 1 ∷ pair 7 2 ∷ pair 7 2 ∷ pair 9 1 ∷ [])
-    ∷ same-pairs (pairAbsorbed 1) (pair 9 1 ∷ pair 7 2 ∷ pair 7 1 ∷ [])
+    ∷ same-pairs (pairAbsorbed 0) (entry 7 1 ∷ entry 7 2 ∷ entry 7 2 ∷ entry 9 1 ∷ [])
+    ∷ same-pairs (pairAbsorbed 1) (entry 9 1 ∷ entry 7 2 ∷ entry 7 1 ∷ [])
     ∷ same (refusals pairRun pairStart pairSteps) (0 ∷ 0 ∷ 0 ∷ 0 ∷ 0 ∷ 0 ∷ 0 ∷ [])
     ∷ same (ran pairRun pairStart pairSteps .words) (7 ∷ 2 ∷ 9 ∷ 1 ∷ 7 ∷ 2 ∷ 9 ∷ 1 ∷ [])
     ∷ []
 
 -- the two sites absorb these pairs, in another order and not as often, and hold the same table
 pub pairs-hold : all pairCases ≡ true
-unfolding pairCases refusals values listed afterAdd afterRemove unused soundFrom lengthOf held push withLength raised heldWith merged newIds rises raiseRefusal raiseTable removeRefusal removeTable mergeRefusal mergeTable isFree isOccupied slotsSound waiting lowestFree cleared ledgerSound oneMore raisedIf tableAt withTable sizesRight tablesSound allSound slotOf numbers firstGiven refusalIn effect refusalOf valueOf after freshRefusal afterFresh ran acceptedOf entriesOf siteIn absorbedIn absorbed largest occurs within idsOf offeredIn offered among distinct
+unfolding pairCases refusals values listed afterAdd afterRemove unused soundFrom lengthOf held push withLength raised heldWith merged newIds rises raiseRefusal raiseTable removeRefusal removeTable mergeRefusal mergeTable isFree isOccupied slotsSound waiting lowestFree cleared countsSound oneMore raisedIf tableAt withTable sizesRight tablesSound allSound slotOf numbers firstGiven refusalIn effect refusalOf valueOf after freshRefusal afterFresh linkOf linkBetween pairSound overRow overRows linksSound linksBegun movesOn heardPair incomparable nextSerial isNewer ahead isOrdered ran acceptedOf entriesOf siteIn absorbedIn absorbed largest occurs within idsOf offeredIn offered among distinct
 pairs-hold = refl
 
 -- a test that two lists of words are the same tells that they are

@@ -31,8 +31,9 @@ pub stepped-determined : (run : Run) (before : State) (step : Step) {r r′ : An
 stepped-determined run before step p q = one-outcome (p .answer, p .state) (q .answer, q .state)
 
 -- the contract of `fresh` leaves one refusal number and one state
-pub freshened-determined : (run : Run) (before : State) {r r′ : ℕ} {left left′ : State} → Freshened run before r left → Freshened run before r′ left′ → (r ≡ r′) × (left ≡ left′)
-freshened-determined run before p q = one-outcome (p .refusal, p .state) (q .refusal, q .state)
+pub freshened-determined : (run : Run) (first : ℕ) (before : State) {r r′ : ℕ} {left left′ : State}
+    → Freshened run first before r left → Freshened run first before r′ left′ → (r ≡ r′) × (left ≡ left′)
+freshened-determined run first before p q = one-outcome (p .refusal, p .state) (q .refusal, q .state)
 
 -- the contract of a step by its four numbers leaves one refusal, one other result and one state
 pub called-determined : (run : Run) (before : State) (kind first second id : ℕ) {r r′ v v′ : ℕ} {left left′ : State}

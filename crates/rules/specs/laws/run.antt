@@ -4,6 +4,7 @@ pub mod Tables
 pub mod Zeros
 pub mod Slots
 pub mod Ledgers
+pub mod Links
 pub mod Steps
 pub mod Owed
 pub mod Rows

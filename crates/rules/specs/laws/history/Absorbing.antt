@@ -63,21 +63,21 @@ pub ran-never-falls : (run : Run) (s : State) (steps : List Step) (k e : ℕ) �
 ran-never-falls run s steps k e = omega (arith, ran-absorbs run s steps k e)
 
 -- ---- from fresh
-module _ (run : Run) (s : State) (fresh : freshRefusal run (length (s .words)) (length (s .slots)) ≡ 0) where
+module _ (run : Run) (first : ℕ) (s : State) (fresh : freshRefusal run (length (s .words)) (length (s .slots)) ≡ 0) where
   -- a site of a fresh run holds nothing
-  fresh-holds : (k e : ℕ) → lengthOf (tableAt run (afterFresh run s .words) k) e ≡ 0
-  fresh-holds k e = of-unused (fresh-unused run s fresh k) e
+  fresh-holds : (k e : ℕ) → lengthOf (tableAt run (afterFresh run first s .words) k) e ≡ 0
+  fresh-holds k e = of-unused (fresh-unused run first s fresh k) e
 
   -- "For each site and id, the length held is the largest it has absorbed .., or zero if none."
-  pub held-is-largest : (steps : List Step) (k e : ℕ) → lengthOf (tableAt run (ran run (afterFresh run s) steps .words) k) e ≡ largest (absorbed run (afterFresh run s) k steps) e
-  held-is-largest steps k e = omega (arith, ran-absorbs run (afterFresh run s) steps k e, fresh-holds k e)
+  pub held-is-largest : (steps : List Step) (k e : ℕ) → lengthOf (tableAt run (ran run (afterFresh run first s) steps .words) k) e ≡ largest (absorbed run (afterFresh run first s) k steps) e
+  held-is-largest steps k e = omega (arith, ran-absorbs run (afterFresh run first s) steps k e, fresh-holds k e)
 
   -- "So two sites in one run that absorbed the same set of id and length pairs, in whichever order and however often, hold equal tables."
   pub same-pairs-same-tables : (steps : List Step) (j k : ℕ) → j < run .sites → k < run .sites
-      → samePairs (absorbed run (afterFresh run s) j steps) (absorbed run (afterFresh run s) k steps) ≡ true
-      → tableAt run (ran run (afterFresh run s) steps .words) j ≡ tableAt run (ran run (afterFresh run s) steps .words) k
+      → samePairs (absorbed run (afterFresh run first s) j steps) (absorbed run (afterFresh run first s) k steps) ≡ true
+      → tableAt run (ran run (afterFresh run first s) steps .words) j ≡ tableAt run (ran run (afterFresh run first s) steps .words) k
   same-pairs-same-tables steps j k p q same =
-      let u = ran run (afterFresh run s) steps in
-      let so = fresh-ran-sound run s fresh steps in
+      let u = ran run (afterFresh run first s) steps in
+      let so = fresh-ran-sound run first s fresh steps in
       law M (site-sound run u so j p) (site-sound run u so k q) (site-length run u so j p ∙ sym (site-length run u so k q))
       (λ e. held-is-largest steps j e ∙ same-largest _ _ same e ∙ sym (held-is-largest steps k e))

@@ -13,7 +13,7 @@ use Rattle.rules.specs.declared.Run.{Run}
 use Rattle.rules.specs.declared.Step.{Step}
 use Rattle.rules.specs.meaning.Lengths.{M}
 use Rattle.rules.specs.meaning.Parcels.{waiting}
-use Rattle.rules.specs.meaning.Ledgers.{emptyLedger}
+use Rattle.rules.specs.meaning.Ledgers.{noCounts}
 use Rattle.rules.specs.meaning.Kinds.{isSend, isAgain, isDeliver, isLose}
 use Rattle.rules.specs.meaning.States.{State, StateSound}
 use Rattle.rules.specs.meaning.Runs.{refusalOf, after, freshRefusal, afterFresh, moved, stateBy}
@@ -37,26 +37,26 @@ module _ (run : Run) (s : State) where
       go (suc r) e = rw (ne-eqb (suc r) 0 (omega arith))
 
   -- sent is one more exactly for an accepted send
-  pub sent-count : (step : Step) → after run s step .ledger .sent ≡ cond (isAccepted run s step && isSend step) (suc (s .ledger .sent)) (s .ledger .sent)
-  sent-count step = counted step (isSend step) (λ u. u .ledger .sent) (λ h. owed run s step .parcels .earned h .0)
+  pub sent-count : (step : Step) → after run s step .ledger .counts .sent ≡ cond (isAccepted run s step && isSend step) (suc (s .ledger .counts .sent)) (s .ledger .counts .sent)
+  sent-count step = counted step (isSend step) (λ u. u .ledger .counts .sent) (λ h. owed run s step .parcels .earned h .0)
 
   -- copied is one more exactly for an accepted copy
-  pub copied-count : (step : Step) → after run s step .ledger .copied ≡ cond (isAccepted run s step && isAgain step) (suc (s .ledger .copied)) (s .ledger .copied)
-  copied-count step = counted step (isAgain step) (λ u. u .ledger .copied) (λ h. owed run s step .parcels .earned h .1)
+  pub copied-count : (step : Step) → after run s step .ledger .counts .copied ≡ cond (isAccepted run s step && isAgain step) (suc (s .ledger .counts .copied)) (s .ledger .counts .copied)
+  copied-count step = counted step (isAgain step) (λ u. u .ledger .counts .copied) (λ h. owed run s step .parcels .earned h .1)
 
   -- absorbed is one more exactly for an accepted delivery
-  pub absorbed-count : (step : Step) → after run s step .ledger .absorbed ≡ cond (isAccepted run s step && isDeliver step) (suc (s .ledger .absorbed)) (s .ledger .absorbed)
-  absorbed-count step = counted step (isDeliver step) (λ u. u .ledger .absorbed) (λ h. owed run s step .parcels .earned h .2)
+  pub absorbed-count : (step : Step) → after run s step .ledger .counts .absorbed ≡ cond (isAccepted run s step && isDeliver step) (suc (s .ledger .counts .absorbed)) (s .ledger .counts .absorbed)
+  absorbed-count step = counted step (isDeliver step) (λ u. u .ledger .counts .absorbed) (λ h. owed run s step .parcels .earned h .2)
 
   -- lost is one more exactly for an accepted loss
-  pub lost-count : (step : Step) → after run s step .ledger .lost ≡ cond (isAccepted run s step && isLose step) (suc (s .ledger .lost)) (s .ledger .lost)
-  lost-count step = counted step (isLose step) (λ u. u .ledger .lost) (λ h. owed run s step .parcels .earned h .3)
+  pub lost-count : (step : Step) → after run s step .ledger .counts .lost ≡ cond (isAccepted run s step && isLose step) (suc (s .ledger .counts .lost)) (s .ledger .counts .lost)
+  lost-count step = counted step (isLose step) (λ u. u .ledger .counts .lost) (λ h. owed run s step .parcels .earned h .3)
 
   -- no step in a sound state is refused with 1 or with 2
   never-unsound : (step : Step) → StateSound run s → (refusalOf run s step ≡ 1 → ⊥) × (refusalOf run s step ≡ 2 → ⊥)
   never-unsound step h = (
-    λ e. omega (arith, given-numbered 3 10 _ (owed run s step .tests) 0 (sym (sound-judged run s step h) ∙ e)),
-    λ e. omega (arith, given-numbered 3 10 _ (owed run s step .tests) 1 (sym (sound-judged run s step h) ∙ e)),
+    λ e. omega (arith, given-numbered 3 99 _ (owed run s step .tests) 0 (sym (sound-judged run s step h) ∙ e)),
+    λ e. omega (arith, given-numbered 3 99 _ (owed run s step .tests) 1 (sym (sound-judged run s step h) ∙ e)),
   )
 
 -- ---- what every step keeps, a list of steps keeps
@@ -89,49 +89,49 @@ module _ (run : Run) (kind : Step → Bool) (count : State → ℕ)
       go false e = omega arith
 
 -- ---- from fresh
-module _ (run : Run) (s : State) (fresh : freshRefusal run (length (s .words)) (length (s .slots)) ≡ 0) where
-  fresh-ledger : afterFresh run s .ledger ≡ emptyLedger
+module _ (run : Run) (first : ℕ) (s : State) (fresh : freshRefusal run (length (s .words)) (length (s .slots)) ≡ 0) where
+  fresh-counts : afterFresh run first s .ledger .counts ≡ noCounts
   unfolding afterFresh
-  fresh-ledger = rw fresh
+  fresh-counts = rw fresh
 
   -- after any list of steps the state is sound
-  pub fresh-ran-sound : (steps : List Step) → StateSound run (ran run (afterFresh run s) steps)
-  fresh-ran-sound steps = ran-sound run (afterFresh run s) steps (fresh-sound run s fresh)
+  pub fresh-ran-sound : (steps : List Step) → StateSound run (ran run (afterFresh run first s) steps)
+  fresh-ran-sound steps = ran-sound run (afterFresh run first s) steps (fresh-sound run first s fresh)
 
   -- a count that is 0 in a fresh run
   from-zero : (kind : Step → Bool) (count : State → ℕ)
       → ((u : State) (step : Step) → count (after run u step) ≡ cond (isAccepted run u step && kind step) (suc (count u)) (count u))
-      → count (afterFresh run s) ≡ 0 → (steps : List Step) → count (ran run (afterFresh run s) steps) ≡ acceptedOf kind run (afterFresh run s) steps
-  from-zero kind count each none steps = omega (arith, ran-counts run kind count each (afterFresh run s) steps, none)
+      → count (afterFresh run first s) ≡ 0 → (steps : List Step) → count (ran run (afterFresh run first s) steps) ≡ acceptedOf kind run (afterFresh run first s) steps
+  from-zero kind count each none steps = omega (arith, ran-counts run kind count each (afterFresh run first s) steps, none)
 
   -- "From a fresh start each counter is the number of accepted steps of its kind": sent, of the sends
-  pub sent-is-counted : (steps : List Step) → ran run (afterFresh run s) steps .ledger .sent ≡ acceptedOf isSend run (afterFresh run s) steps
-  sent-is-counted = from-zero isSend (λ u. u .ledger .sent) (sent-count run) (ap (λ l. l .sent) fresh-ledger)
+  pub sent-is-counted : (steps : List Step) → ran run (afterFresh run first s) steps .ledger .counts .sent ≡ acceptedOf isSend run (afterFresh run first s) steps
+  sent-is-counted = from-zero isSend (λ u. u .ledger .counts .sent) (sent-count run) (ap (λ c. c .sent) fresh-counts)
 
   -- "From a fresh start each counter is the number of accepted steps of its kind": copied, of the copies
-  pub copied-is-counted : (steps : List Step) → ran run (afterFresh run s) steps .ledger .copied ≡ acceptedOf isAgain run (afterFresh run s) steps
-  copied-is-counted = from-zero isAgain (λ u. u .ledger .copied) (copied-count run) (ap (λ l. l .copied) fresh-ledger)
+  pub copied-is-counted : (steps : List Step) → ran run (afterFresh run first s) steps .ledger .counts .copied ≡ acceptedOf isAgain run (afterFresh run first s) steps
+  copied-is-counted = from-zero isAgain (λ u. u .ledger .counts .copied) (copied-count run) (ap (λ c. c .copied) fresh-counts)
 
   -- "From a fresh start each counter is the number of accepted steps of its kind": absorbed, of the deliveries
-  pub absorbed-is-counted : (steps : List Step) → ran run (afterFresh run s) steps .ledger .absorbed ≡ acceptedOf isDeliver run (afterFresh run s) steps
-  absorbed-is-counted = from-zero isDeliver (λ u. u .ledger .absorbed) (absorbed-count run) (ap (λ l. l .absorbed) fresh-ledger)
+  pub absorbed-is-counted : (steps : List Step) → ran run (afterFresh run first s) steps .ledger .counts .absorbed ≡ acceptedOf isDeliver run (afterFresh run first s) steps
+  absorbed-is-counted = from-zero isDeliver (λ u. u .ledger .counts .absorbed) (absorbed-count run) (ap (λ c. c .absorbed) fresh-counts)
 
   -- "From a fresh start each counter is the number of accepted steps of its kind": lost, of the losses
-  pub lost-is-counted : (steps : List Step) → ran run (afterFresh run s) steps .ledger .lost ≡ acceptedOf isLose run (afterFresh run s) steps
-  lost-is-counted = from-zero isLose (λ u. u .ledger .lost) (lost-count run) (ap (λ l. l .lost) fresh-ledger)
+  pub lost-is-counted : (steps : List Step) → ran run (afterFresh run first s) steps .ledger .counts .lost ≡ acceptedOf isLose run (afterFresh run first s) steps
+  lost-is-counted = from-zero isLose (λ u. u .ledger .counts .lost) (lost-count run) (ap (λ c. c .lost) fresh-counts)
 
   -- "sent + copied = absorbed + lost + waiting", after any list of steps
   pub books-balance : (steps : List Step)
-      → ran run (afterFresh run s) steps .ledger .sent + ran run (afterFresh run s) steps .ledger .copied
-      ≡ ran run (afterFresh run s) steps .ledger .absorbed + ran run (afterFresh run s) steps .ledger .lost + waiting (ran run (afterFresh run s) steps .slots)
+      → ran run (afterFresh run first s) steps .ledger .counts .sent + ran run (afterFresh run first s) steps .ledger .counts .copied
+      ≡ ran run (afterFresh run first s) steps .ledger .counts .absorbed + ran run (afterFresh run first s) steps .ledger .counts .lost + waiting (ran run (afterFresh run first s) steps .slots)
   books-balance steps =
-      let u = ran run (afterFresh run s) steps in
-      balanced M (waiting (u .slots)) (u .ledger) (fresh-ran-sound steps .3) .sums
+      let u = ran run (afterFresh run first s) steps in
+      balanced M (waiting (u .slots)) (u .ledger .counts) (fresh-ran-sound steps .3) .sums
 
   -- "no refusal is given outside its listed condition": a run that was made fresh keeps its sizes, so no step of it is refused with 1
-  pub never-1 : (before : List Step) (step : Step) → refusalOf run (ran run (afterFresh run s) before) step ≡ 1 → ⊥
-  never-1 before step = never-unsound run (ran run (afterFresh run s) before) step (fresh-ran-sound before) .0
+  pub never-1 : (before : List Step) (step : Step) → refusalOf run (ran run (afterFresh run first s) before) step ≡ 1 → ⊥
+  never-1 before step = never-unsound run (ran run (afterFresh run first s) before) step (fresh-ran-sound before) .0
 
   -- and it keeps its layout, so no step of it is refused with 2
-  pub never-2 : (before : List Step) (step : Step) → refusalOf run (ran run (afterFresh run s) before) step ≡ 2 → ⊥
-  never-2 before step = never-unsound run (ran run (afterFresh run s) before) step (fresh-ran-sound before) .1
+  pub never-2 : (before : List Step) (step : Step) → refusalOf run (ran run (afterFresh run first s) before) step ≡ 2 → ⊥
+  never-2 before step = never-unsound run (ran run (afterFresh run first s) before) step (fresh-ran-sound before) .1

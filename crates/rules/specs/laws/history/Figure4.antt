@@ -163,7 +163,8 @@ module _ (run : Run) (s : State) where
   unfolding raiseRefusal slotOf numbers effect
   deliver-fits i ok =
       let a = pass 4 _ _ (accepted-own run s (Deliver i) ok) in
-      rw (pass 7 _ _ (a .1) .0)
+      let b = pass 14 _ _ (a .1) in
+      rw (pass 7 _ _ (b .1) .0)
 
   -- "Delivering it merges that single entry": an accepted delivery gives the parcel's id the larger length at the parcel's site, and leaves
   -- every other length

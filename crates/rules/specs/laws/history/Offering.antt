@@ -84,17 +84,17 @@ module _ (run : Run) where
           x (ih x p)
 
 -- ---- from a fresh run
-module _ (run : Run) (s : State) (made : freshRefusal run (length (s .words)) (length (s .slots)) ≡ 0) where
+module _ (run : Run) (first : ℕ) (s : State) (made : freshRefusal run (length (s .words)) (length (s .slots)) ≡ 0) where
   -- a site of a fresh run holds no id
-  fresh-ids : (k : ℕ) → idsOf (tableAt run (afterFresh run s .words) k) ≡ []
-  fresh-ids k = ids-unused (fresh-unused run s made k)
+  fresh-ids : (k : ℕ) → idsOf (tableAt run (afterFresh run first s .words) k) ≡ []
+  fresh-ids k = ids-unused (fresh-unused run first s made k)
 
   -- the ids that a site holds are among those it was offered
-  pub held-ids : (before : List Step) (k : ℕ) → k < run .sites → AllAmong (idsOf (tableAt run (ran run (afterFresh run s) before .words) k)) (offered run (afterFresh run s) k before)
-  held-ids before k h = rw (fresh-ids k, append-nil (offered run (afterFresh run s) k before)) at (ran-ids run (afterFresh run s) before (fresh-sound run s made) k h)
+  pub held-ids : (before : List Step) (k : ℕ) → k < run .sites → AllAmong (idsOf (tableAt run (ran run (afterFresh run first s) before .words) k)) (offered run (afterFresh run first s) k before)
+  held-ids before k h = rw (fresh-ids k, append-nil (offered run (afterFresh run first s) k before)) at (ran-ids run (afterFresh run first s) before (fresh-sound run first s made) k h)
 
   -- every id that has a length at a site of a run was offered to that site, by an add, a delivery or a merge
-  pub held-offered : (before : List Step) (k : ℕ) → k < run .sites → (e : ℕ) → 1 ≤ lengthOf (tableAt run (ran run (afterFresh run s) before .words) k) e
-      → among e (offered run (afterFresh run s) k before) ≡ true
+  pub held-offered : (before : List Step) (k : ℕ) → k < run .sites → (e : ℕ) → 1 ≤ lengthOf (tableAt run (ran run (afterFresh run first s) before .words) k) e
+      → among e (offered run (afterFresh run first s) k before) ≡ true
   held-offered before k h e some =
-      held-ids before k h e (held-among M _ (site-sound run (ran run (afterFresh run s) before) (fresh-ran-sound run s made before) k h) e some)
+      held-ids before k h e (held-among M _ (site-sound run (ran run (afterFresh run first s) before) (fresh-ran-sound run first s made before) k h) e some)

@@ -68,7 +68,7 @@ accepted-within n step m p = go (isQuery step) refl
         rw (eqb-true (numbers step .kind) 3 q) (omega (arith, query-long (numbers step .first) (numbers step .second) (numbers step .id)))
     go false q = omega arith
 
-line-by-within : (r n : ℕ) (step : Step) (m : ℕ) → n < 100000 → r ≤ 10 → length (lineBy r n step m) ≤ 22 * (length (lineOf step) + 1)
+line-by-within : (r n : ℕ) (step : Step) (m : ℕ) → n < 100000 → r ≤ 99 → length (lineBy r n step m) ≤ 22 * (length (lineOf step) + 1)
 line-by-within zero n step m p q = let a = accepted-within n step m p in omega arith
 line-by-within (suc r) n step m p q = let a : length (refusedLine n (suc r)) ≤ 22 = refused-within n (suc r) p (omega arith) in omega arith
 

@@ -7,7 +7,7 @@ use mathlib.Core.Path.{_≡_, refl}
 use mathlib.Core.List.{List, [], _∷_}
 use lib.ListN.{length, drop, length-append, length-take}
 use Rattle.rules.specs.declared.Run.{Run}
-use Rattle.rules.specs.declared.Ledger.{Ledger}
+use Rattle.rules.specs.declared.Counts.{Counts}
 use Rattle.rules.specs.declared.Step.{Step}
 use Rattle.rules.specs.meaning.Lengths.{listed}
 use Rattle.rules.specs.meaning.Table.{held, shown}
@@ -36,21 +36,21 @@ unfolding firstGiven
 given-within most n true ts p q = p
 given-within most n false ts p q = q
 
-own-within : (run : Run) (s : State) (step : Step) → firstGiven (effectOf run s step .tests) ≤ 10
+own-within : (run : Run) (s : State) (step : Step) → firstGiven (effectOf run s step .tests) ≤ 99
 own-within run s step = go (firstGiven (effectOf run s step .tests)) refl
   where
-    go : (r : ℕ) → firstGiven (effectOf run s step .tests) ≡ r → r ≤ 10
+    go : (r : ℕ) → firstGiven (effectOf run s step .tests) ≡ r → r ≤ 99
     go zero e = omega arith
-    go (suc r) e = given-numbered 3 10 _ (owed run s step .tests) r e .1
+    go (suc r) e = given-numbered 3 99 _ (owed run s step .tests) r e .1
 
-pub refusal-within : (run : Run) (s : State) (step : Step) → refusalOf run s step ≤ 10
+pub refusal-within : (run : Run) (s : State) (step : Step) → refusalOf run s step ≤ 99
 unfolding refusalOf refusalIn
 refusal-within run s step =
-    given-within 10 1 _ _ (omega arith) (given-within 10 2 _ _ (omega arith) (own-within run s step))
+    given-within 99 1 _ _ (omega arith) (given-within 99 2 _ _ (omega arith) (own-within run s step))
 
 -- ---- the lines
 -- the line of a refusal: 15 bytes around a line number of at most 5 digits and a refusal number of at most 2
-pub refused-within : (n r : ℕ) → n < 100000 → r ≤ 11 → length (refusedLine n r) ≤ 22
+pub refused-within : (n r : ℕ) → n < 100000 → r ≤ 99 → length (refusedLine n r) ≤ 22
 unfolding refusedLine
 refused-within n r p q =
     let a : length (digits n) ≤ 5 = digits-within 4 n (omega arith) (omega arith) in
@@ -69,7 +69,7 @@ query-within n k e m p =
     simp (length-append) (omega (arith, digits-length k, digits-length e, digits-length m, one-or-none (listed m)))
 
 -- the ledger: 39 bytes around five numbers
-pub ledger-within : (l : Ledger) (w : ℕ) → length (ledgerLines l w) ≤ 139
+pub ledger-within : (l : Counts) (w : ℕ) → length (ledgerLines l w) ≤ 139
 unfolding ledgerLines
 ledger-within l w =
     simp (length-append) (omega (arith, digits-length (l .sent), digits-length (l .copied), digits-length (l .absorbed), digits-length (l .lost), digits-length w))
@@ -115,4 +115,4 @@ pub end-within : (s : State) → length (endLines s) ≤ endRoom
 unfolding endLines
 end-within s =
     let a : length (siteLines 3 0 (s .words)) ≤ 22 * 3 = sites-within 3 0 (s .words) (omega arith) in
-    simp (length-append) (omega (arith, ledger-within (s .ledger) (waiting (s .slots))))
+    simp (length-append) (omega (arith, ledger-within (s .ledger .counts) (waiting (s .slots))))

@@ -12,14 +12,15 @@ use Rattle.rules.specs.declared.Parcel.{Parcel}
 use Rattle.rules.specs.declared.Named.{Named}
 use Rattle.rules.specs.meaning.Table.{unused, soundFrom}
 use Rattle.rules.specs.meaning.Parcels.{noParcel, cleared, isFree, isOccupied, slotsSound, waiting}
-use Rattle.rules.specs.meaning.Ledgers.{ledgerSound}
+use Rattle.rules.specs.meaning.Links.{pairSound, overRow, overRows, linksSound, linksBegun}
+use Rattle.rules.specs.meaning.Ledgers.{countsSound}
 use Rattle.rules.specs.meaning.States.{State, sizesRight, tablesSound, StateSound}
 use Rattle.rules.specs.meaning.Refusals.{firstGiven}
 use Rattle.rules.specs.meaning.Runs.{freshRefusal, afterFresh}
 use Rattle.rules.specs.laws.run.Bursts.{named-sound}
 use Rattle.rules.specs.meaning.StepLines.{stepOf}
 use Rattle.rules.specs.meaning.Calls.{namedAfter}
-use Rattle.rules.specs.meaning.Reports.{reportRun, reportStart, lineEnd, refusedLine, endLines, saidOf, reportFrom, reportOf}
+use Rattle.rules.specs.meaning.Reports.{reportRun, reportLedger, reportStart, lineEnd, refusedLine, endLines, saidOf, reportFrom, reportOf}
 use Rattle.rules.specs.laws.report.Fits.{report-line, report-byte, report-done, report-unended}
 
 -- one more byte of a part
@@ -71,15 +72,15 @@ unfolding cleared
 all-cleared [] = refl
 all-cleared (p ∷ ps) = ap (λ (l : List Parcel). noParcel ∷ l) (all-cleared ps)
 
--- "from fresh": whatever 48 words, 8 slots and ledger are made fresh, the run begins where a report begins
-pub start-fresh : (s : State) → length (s .words) ≡ 48 → length (s .slots) ≡ 8 → afterFresh reportRun s ≡ reportStart
-unfolding freshRefusal firstGiven sizesRight afterFresh
-start-fresh s w k = rw (all-cleared (s .slots), w, k)
+-- "from fresh", "each pair at 0": whatever 48 words, 8 slots and counts are made fresh from serial 0 on, the run begins where a report begins
+pub start-fresh : (s : State) → length (s .words) ≡ 48 → length (s .slots) ≡ 8 → s .ledger .pairs ≡ reportLedger .pairs → afterFresh reportRun 0 s ≡ reportStart
+unfolding freshRefusal firstGiven sizesRight afterFresh linksBegun overRows overRow
+start-fresh s w k p = rw (all-cleared (s .slots), w, k, p)
 
 -- they are sound, so no line of a report tells of 1 or 2
 pub start-sound : StateSound reportRun reportStart
-unfolding unused soundFrom isFree isOccupied slotsSound waiting ledgerSound sizesRight tablesSound
-start-sound = (refl, refl, refl, refl)
+unfolding unused soundFrom isFree isOccupied slotsSound waiting countsSound sizesRight tablesSound linksSound overRows overRow pairSound
+start-sound = (refl, refl, refl, refl, refl)
 
 pub state-sound : (s : State) (r : Named) → StateSound reportRun s → StateSound reportRun (namedAfter reportRun s r)
 state-sound s r h = named-sound reportRun s h r

@@ -11,7 +11,9 @@ use Rattle.rules.specs.declared.Run.{Run}
 use Rattle.rules.specs.declared.Step.{Step}
 use Rattle.rules.specs.meaning.Operations.{answer}
 use Rattle.rules.specs.meaning.Lengths.{M}
-use Rattle.rules.specs.meaning.Parcels.{noParcel, slotsSound, lowestFree}
+use Rattle.rules.specs.meaning.Parcels.{noParcel, slotsSound, waiting, lowestFree}
+use Rattle.rules.specs.meaning.Links.{noLink}
+use Rattle.rules.specs.meaning.Ledgers.{countsSound}
 use Rattle.rules.specs.laws.run.Slots.{set-lowest}
 use Rattle.rules.specs.laws.table.View.{parts}
 use Rattle.rules.specs.meaning.Refusals.{firstGiven}
@@ -30,11 +32,12 @@ judged-sound run s h =
     let b = pass 1 _ _ (a .1) in
     let c = parts (tablesSound M (width run) (run .sites) (s .words)) _ (not-false _ (b .0)) in
     let d = parts (slotsSound M (run .sites) (s .slots)) _ (c .1) in
-    (not-false _ (a .0), c .0, d .0, d .1)
+    let e = parts (countsSound M (waiting (s .slots)) (s .ledger .counts)) _ (d .1) in
+    (not-false _ (a .0), c .0, d .0, e .0, e .1)
 
 pub sound-passes : (run : Run) (s : State) → StateSound run s → judgedOf run s ≡ 0
 unfolding judgedOf allSound firstGiven
-sound-passes run s h = rw (h .0, h .1, h .2, h .3)
+sound-passes run s h = rw (h .0, h .1, h .2, h .3, h .4)
 
 -- so what it lets through may be handed to the inner step
 pub judged-clear : (run : Run) (s : State) (low : ℕ) → low ≤ lowestFree (s .slots) → Clear (judgedOf run s) low run s
@@ -43,9 +46,9 @@ judged-clear run s low under = (judged-sound run s, under)
 -- what it refuses is refused with that number at each step
 pub judged-first : (run : Run) (s : State) (step : Step) (r : ℕ) → judgedOf run s ≡ suc r → refusalOf run s step ≡ suc r
 unfolding judgedOf refusalOf refusalIn firstGiven allSound
-judged-first run s step r h = go (sizesRight run (length (s .words)) (length (s .slots))) refl (allSound run (s .words) (sightWith noParcel run s)) refl
+judged-first run s step r h = go (sizesRight run (length (s .words)) (length (s .slots))) refl (allSound run (s .words) (sightWith noParcel noLink run s)) refl
   where
-    go : (a : Bool) → sizesRight run (length (s .words)) (length (s .slots)) ≡ a → (b : Bool) → allSound run (s .words) (sightWith noParcel run s) ≡ b → refusalOf run s step ≡ suc r
+    go : (a : Bool) → sizesRight run (length (s .words)) (length (s .slots)) ≡ a → (b : Bool) → allSound run (s .words) (sightWith noParcel noLink run s) ≡ b → refusalOf run s step ≡ suc r
     go true p true q = absurd (omega (arith, rw (p, q) at h))
     go true p false q = rw (p, q) (rw (p, q) at h)
     go false p b q = rw p (rw p at h)

@@ -19,7 +19,8 @@ use Rattle.rules.specs.meaning.Lengths.{M, join}
 use Rattle.rules.specs.meaning.Table.{lengthOf}
 use Rattle.rules.specs.laws.table.View.{parts}
 use Rattle.rules.specs.meaning.Parcels.{noParcel, slotsSound, waiting, lowestFree}
-use Rattle.rules.specs.meaning.Ledgers.{ledgerSound, raisedIf}
+use Rattle.rules.specs.meaning.Links.{noLink, noPair, pairSound, linksSound}
+use Rattle.rules.specs.meaning.Ledgers.{countsSound, raisedIf}
 use Rattle.rules.specs.meaning.Refusals.{Test, firstGiven}
 use Rattle.rules.specs.meaning.Kinds.{isSend, isAgain, isDeliver, isLose, takesSlot, freesSlot}
 use Rattle.rules.specs.meaning.States.{State, StateSound, width, tableAt, tablesSound, sightOf}
@@ -28,6 +29,7 @@ use Rattle.rules.specs.meaning.Runs.{effectOf, refusalOf, valueOf, moved
 use Rattle.rules.specs.meaning.Acts.{lowTaken}
 use Rattle.rules.specs.meaning.Histories.{largest, among, distinct}
 use Rattle.rules.specs.laws.run.Slots.{lowest-within}
+use Rattle.rules.specs.laws.run.Links.{set-links-sound}
 use Rattle.rules.specs.laws.run.Steps.{neither, accepted-sound}
 
 -- ---- the tests
@@ -64,9 +66,9 @@ unfolding largest
 nothing-gained n e = omega arith
 
 -- ---- the slots and the ledger after an accepted step
--- sound slots and a ledger that balances with them
+-- sound slots, counts that balance with them, and sound links
 abbrev pub Counted : Run → List Parcel → Ledger → Type 0
-Counted run ss l = (slotsSound M (run .sites) ss ≡ true) × (ledgerSound M (waiting ss) l ≡ true)
+Counted run ss l = (slotsSound M (run .sites) ss ≡ true) × (countsSound M (waiting ss) (l .counts) ≡ true) × (linksSound (run .sites) (l .pairs) ≡ true)
 
 -- one more where the step is of the counter's kind
 abbrev pub Earned : Bool → ℕ → ℕ → Type 0
@@ -89,15 +91,15 @@ module _ (run : Run) (s : State) (step : Step) where
   pub record ParcelsOwed : Type 0 where
     pub counted : refusalOf run s step ≡ 0 → Counted run (moved run s step .slots) (moved run s step .ledger)
     pub earned : refusalOf run s step ≡ 0
-        → Earned (isSend step) (s .ledger .sent) (moved run s step .ledger .sent)
-        × Earned (isAgain step) (s .ledger .copied) (moved run s step .ledger .copied)
-        × Earned (isDeliver step) (s .ledger .absorbed) (moved run s step .ledger .absorbed)
-        × Earned (isLose step) (s .ledger .lost) (moved run s step .ledger .lost)
+        → Earned (isSend step) (s .ledger .counts .sent) (moved run s step .ledger .counts .sent)
+        × Earned (isAgain step) (s .ledger .counts .copied) (moved run s step .ledger .counts .copied)
+        × Earned (isDeliver step) (s .ledger .counts .absorbed) (moved run s step .ledger .counts .absorbed)
+        × Earned (isLose step) (s .ledger .counts .lost) (moved run s step .ledger .counts .lost)
     pub low : Low step (lowestFree (s .slots)) (valueOf run s step) (effectOf run s step .post .place)
 
-  -- and of its tests: they have the numbers from 3 to 10, since 1 and 2 judge the state
+  -- and of its tests: their numbers begin at 3, since 1 and 2 judge the state, and have two digits at most
   pub record Owed : Type 0 where
-    pub tests : numbered 3 10 (effectOf run s step .tests) ≡ true
+    pub tests : numbered 3 99 (effectOf run s step .tests) ≡ true
     pub tables : TablesOwed
     pub parcels : ParcelsOwed
 
@@ -117,14 +119,14 @@ module _ (run : Run) (s : State) (step : Step) where
 
   -- ---- a step that leaves the parcels alone
   pub quiet : effectOf run s step .post ≡ noPost (sightOf run s step) → takesSlot step ≡ false → freesSlot step ≡ false → ParcelsOwed
-  unfolding raisedIf lowTaken
+  unfolding raisedIf lowTaken pairSound
   quiet none takes frees =
       let t = neither (isSend step) (isAgain step) takes in
       let f = neither (isDeliver step) (isLose step) frees in
       record {
         counted = λ a.
             let so = accepted-sound run s step a in
-            rw (none, set-out (s .slots) (length (s .slots)) noParcel (le-refl (length (s .slots)))) (so .2, so .3);
+            rw (none, set-out (s .slots) (length (s .slots)) noParcel (le-refl (length (s .slots)))) (so .2, so .3, set-links-sound (run .sites) (s .ledger .pairs) noLink noPair (so .4) refl);
         earned = λ a. rw (none, t .0, t .1, f .0, f .1) (refl, refl, refl, refl);
         low = λ low under. rw (none, takes, frees) (le-trans under (lowest-within (s .slots)), under);
       }

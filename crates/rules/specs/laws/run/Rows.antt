@@ -6,11 +6,12 @@ use native.Mathlib.Omega.{arith}
 use mathlib.Core.Bool.{Bool, true, false, _||_, cond, or-true}
 use mathlib.Core.Path.{_≡_, refl, sym, _∙_}
 use mathlib.Core.List.{List, [], _∷_, _++_}
-use lib.ListN.{length, set}
+use lib.ListN.{length, getD, set}
 use lib.Dec.{eqb}
 use borrow.Author.Tests.{leb-false, lt-leb, ltb-true, eqb-true}
 use Rattle.rules.specs.declared.Run.{Run}
 use Rattle.rules.specs.declared.Parcel.{Parcel}
+use Rattle.rules.specs.declared.Pair.{Pair}
 use Rattle.rules.specs.declared.Ledger.{Ledger}
 use Rattle.rules.specs.declared.Step.{Step}
 use Rattle.rules.specs.declared.Step.the-variants.{Add, Remove, Query, Send, Merge, Deliver, Again, Lose}
@@ -21,9 +22,10 @@ use Rattle.rules.specs.laws.table.Law.{of-most}
 use Rattle.rules.specs.meaning.Operations.{addTable, absorbTable, removeTable, mergeTable}
 use Rattle.rules.specs.laws.table.Operations.{add-sound, add-of, absorb-sound, absorb-of, raise-length, remove-sound, remove-of, remove-length, merge-sound, merge-of, merge-length}
 use Rattle.rules.specs.meaning.Parcels.{noParcel, isFree, isOccupied, waiting, lowestFree}
-use Rattle.rules.specs.meaning.Ledgers.{ledgerSound, raisedLedger, raisedIf, sentCounter, copiedCounter, absorbedCounter, lostCounter}
+use Rattle.rules.specs.meaning.Links.{noLink, noPair, linkBetween, pairSound, sentPair, heardPair, linksSound}
+use Rattle.rules.specs.meaning.Ledgers.{countsSound, bookedLedger, raisedIf, sentCounter, copiedCounter, absorbedCounter, lostCounter}
 use Rattle.rules.specs.meaning.Refusals.{Test, _when_, firstGiven}
-use Rattle.rules.specs.meaning.Kinds.{numbers, slotOf}
+use Rattle.rules.specs.meaning.Kinds.{numbers, slotOf, linkOf}
 use Rattle.rules.specs.meaning.States.{State, StateSound, tableAt, withTable, parcelAt}
 use Rattle.rules.specs.meaning.Steps.{Entry, entryOf, entriesOf, idsOf, outside, effect, siteIn}
 use Rattle.rules.specs.meaning.Runs.{effectOf, refusalOf, valueOf}
@@ -31,8 +33,9 @@ use Rattle.rules.specs.meaning.Acts.{lowTaken}
 use Rattle.rules.specs.meaning.Histories.{largest, among}
 use Rattle.rules.specs.laws.run.Slots.{occupied-by, occupied-has, occupied-not-free, set-slots-sound, waiting-taken, waiting-freed, lowest-free}
 use Rattle.rules.specs.laws.run.Ledgers.{Balanced, balanced, one-more, sent-sound, copied-sound, absorbed-sound, lost-sound}
+use Rattle.rules.specs.laws.run.Links.{set-links-sound, link-sound, heard-sound}
 use Rattle.rules.specs.laws.run.Steps.{past, none-given, neither, sound-judged, accepted-sound, add-own, remove-own, merge-own, send-own, deliver-own, again-own, lose-own}
-use Rattle.rules.specs.laws.run.Tables.{site-sound, site-capacity, put-there, put-elsewhere, put-as-many, put-sound}
+use Rattle.rules.specs.laws.run.Tables.{few-sites, site-sound, site-capacity, put-there, put-elsewhere, put-as-many, put-sound}
 use Rattle.rules.specs.laws.history.Pairs.{largest-pair, largest-entries}
 use Rattle.rules.specs.laws.history.Figure4.{add-fits, remove-fits, merge-taken, deliver-fits}
 use Rattle.rules.specs.laws.history.Climbing.{among-same}
@@ -83,26 +86,36 @@ removed-held zero h = absurd (omega (arith, remove-none))
 removed-held (suc n) h = omega arith
 
 module _ (run : Run) (s : State) where
-  books : (step : Step) → refusalOf run s step ≡ 0 → Balanced M (waiting (s .slots)) (s .ledger)
-  books step a = balanced M (waiting (s .slots)) (s .ledger) (accepted-sound run s step a .3)
+  books : (step : Step) → refusalOf run s step ≡ 0 → Balanced M (waiting (s .slots)) (s .ledger .counts)
+  books step a = balanced M (waiting (s .slots)) (s .ledger .counts) (accepted-sound run s step a .3)
 
   -- an occupied parcel stored in the lowest free slot
   stored : (step : Step) (p : Parcel) (l : Ledger) → refusalOf run s step ≡ 0 → lowestFree (s .slots) < length (s .slots) → isOccupied M (run .sites) p ≡ true
-      → ledgerSound M (suc (waiting (s .slots))) l ≡ true → Counted run (set (s .slots) (lowestFree (s .slots)) p) l
-  stored step p l h free o ok =
+      → countsSound M (suc (waiting (s .slots))) (l .counts) ≡ true → linksSound (run .sites) (l .pairs) ≡ true → Counted run (set (s .slots) (lowestFree (s .slots)) p) l
+  stored step p l h free o ok links =
       let so = accepted-sound run s step h in
       let good : isFree p || isOccupied M (run .sites) p ≡ true = rw o (or-true (isFree p)) in
       let n = waiting-taken (s .slots) (lowestFree (s .slots)) p free (lowest-free (s .slots) free) (occupied-not-free M (run .sites) p o) in
-      (set-slots-sound M (run .sites) (s .slots) (lowestFree (s .slots)) p (so .2) good, rw n ok)
+      (set-slots-sound M (run .sites) (s .slots) (lowestFree (s .slots)) p (so .2) good, rw n ok, links)
 
   -- a slot freed where a parcel was
   emptied : (step : Step) (i : ℕ) (l : Ledger) → refusalOf run s step ≡ 0 → i < length (s .slots) → isOccupied M (run .sites) (parcelAt s i) ≡ true
-      → ((v : ℕ) → suc v ≡ waiting (s .slots) → ledgerSound M v l ≡ true) → Counted run (set (s .slots) i noParcel) l
+      → ((v : ℕ) → suc v ≡ waiting (s .slots) → countsSound M v (l .counts) ≡ true) → linksSound (run .sites) (l .pairs) ≡ true → Counted run (set (s .slots) i noParcel) l
   unfolding isFree
-  emptied step i l h p o ok =
+  emptied step i l h p o ok links =
       let so = accepted-sound run s step h in
       let n = waiting-freed (s .slots) i noParcel p (occupied-not-free M (run .sites) (parcelAt s i) o) refl in
-      (set-slots-sound M (run .sites) (s .slots) i noParcel (so .2) refl, ok (waiting (set (s .slots) i noParcel)) n)
+      (set-slots-sound M (run .sites) (s .slots) i noParcel (so .2) refl, ok (waiting (set (s .slots) i noParcel)) n, links)
+
+  -- the links with a sound entry set, and with what a send and a delivery make of the entry of theirs
+  links-kept : (step : Step) (link : ℕ) (p : Pair) → refusalOf run s step ≡ 0 → pairSound p ≡ true → linksSound (run .sites) (set (s .ledger .pairs) link p) ≡ true
+  links-kept step link p a ok = set-links-sound (run .sites) (s .ledger .pairs) link p (accepted-sound run s step a .4) ok
+
+  entry-sound : (step : Step) (a b : ℕ) → refusalOf run s step ≡ 0 → a < run .sites → b < run .sites → (a ≡ b → ⊥)
+      → pairSound (getD (s .ledger .pairs) (linkBetween (run .sites) a b) noPair) ≡ true
+  entry-sound step a b h la lb d =
+      let so = accepted-sound run s step h in
+      link-sound (run .sites) (s .ledger .pairs) a b (few-sites run _ _ (so .0)) la lb d (so .4)
 
   -- the lowest free slot is taken
   as-taken : (low : ℕ) → low ≤ lowestFree (s .slots) → (lowestFree (s .slots) ≤ lowestFree (s .slots)) × (lowestFree (s .slots) ≤ lowestFree (s .slots))
@@ -117,7 +130,7 @@ module _ (run : Run) (s : State) where
 
   -- ---- the rows
   pub owed : (step : Step) → Owed run s step
-  unfolding numbered siteIn effect slotOf numbers valueOf lowTaken raisedIf
+  unfolding numbered siteIn effect slotOf numbers valueOf lowTaken raisedIf linkOf pairSound
   owed (Add k e) = record {
     tests = refl;
     tables = record {
@@ -168,11 +181,14 @@ module _ (run : Run) (s : State) where
           let so = accepted-sound run s (Send f t e) a in
           let own = send-own run s f t e a in
           let table = site-sound run s so f (own .0) in
-          let p : Parcel = record { site = t; id = e; length = lengthOf (tableAt run (s .words) f) e } in
-          stored (Send f t e) p (raisedLedger M sentCounter (s .ledger)) a (own .3)
-          (occupied-by M (run .sites) p (own .2) (of-most M (tableAt run (s .words) f) table e) (own .1))
-          (sent-sound M (waiting (s .slots)) (s .ledger) (so .3) (own .4));
-      earned = λ a. (one-more M (s .ledger .sent) (books (Send f t e) a .sent-fits) (send-own run s f t e a .4), refl, refl, refl);
+          let link : ℕ = linkBetween (run .sites) f t in
+          let q = getD (s .ledger .pairs) link noPair in
+          let p : Parcel = record { site = t; id = e; length = lengthOf (tableAt run (s .words) f) e; sender = f; serial = q .next } in
+          stored (Send f t e) p (bookedLedger M sentCounter link (sentPair q) (s .ledger)) a (own .3)
+          (occupied-by M (run .sites) p (own .2) (of-most M (tableAt run (s .words) f) table e) (own .1) (own .0) (own .5))
+          (sent-sound M (waiting (s .slots)) (s .ledger .counts) (so .3) (own .4))
+          (links-kept (Send f t e) link (sentPair q) a (entry-sound (Send f t e) f t a (own .0) (own .1) (own .5)));
+      earned = λ a. (one-more M (s .ledger .counts .sent) (books (Send f t e) a .sent-fits) (send-own run s f t e a .4), refl, refl, refl);
       low = as-taken;
     };
   }
@@ -183,8 +199,9 @@ module _ (run : Run) (s : State) where
       counted = λ a.
           let so = accepted-sound run s (Again i) a in
           let own = again-own run s i a in
-          stored (Again i) (parcelAt s i) (raisedLedger M copiedCounter (s .ledger)) a (own .2) (own .1) (copied-sound M (waiting (s .slots)) (s .ledger) (so .3) (own .3));
-      earned = λ a. (refl, one-more M (s .ledger .copied) (books (Again i) a .copied-fits) (again-own run s i a .3), refl, refl);
+          stored (Again i) (parcelAt s i) (bookedLedger M copiedCounter noLink noPair (s .ledger)) a (own .2) (own .1) (copied-sound M (waiting (s .slots)) (s .ledger .counts) (so .3) (own .3))
+          (links-kept (Again i) noLink noPair a refl);
+      earned = λ a. (refl, one-more M (s .ledger .counts .copied) (books (Again i) a .copied-fits) (again-own run s i a .3), refl, refl);
       low = as-taken;
     };
   }
@@ -206,16 +223,22 @@ module _ (run : Run) (s : State) where
           let p = parcelAt s i in
           let t = tableAt run (s .words) (p .site) in
           let a = past 8 5 _ _ (omega arith) (own-tests ok (Deliver i) r) in
+          let later = past 8 15 _ _ (omega arith) (a .1) in
           let n : ℕ = join (lengthOf t (p .id)) (p .length) in
-          let b : capacity t < heldWith t (p .id) n = ltb-true _ _ (given-by 8 8 _ _ (λ q. none-given 8 (omega arith) (past 8 10 _ _ (omega arith) q .1)) (a .1)) in
+          let b : capacity t < heldWith t (p .id) n = ltb-true _ _ (given-by 8 8 _ _ (λ q. none-given 8 (omega arith) (past 8 10 _ _ (omega arith) q .1)) (later .1)) in
           rw (a .0) (more ok (p .site) h _ (le-trans b (needed-for-one M t (site-sound run s ok (p .site) h) (p .id) n)));
     };
     parcels = record {
       counted = λ a.
           let so = accepted-sound run s (Deliver i) a in
           let own = deliver-own run s i a in
-          emptied (Deliver i) i (raisedLedger M absorbedCounter (s .ledger)) a (own .0) (own .1) (λ v e. absorbed-sound M (waiting (s .slots)) (s .ledger) (so .3) v e (own .2));
-      earned = λ a. (refl, refl, one-more M (s .ledger .absorbed) (books (Deliver i) a .absorbed-fits) (deliver-own run s i a .2), refl);
+          let q = parcelAt s i in
+          let o = occupied-has M (run .sites) q (own .1) in
+          let link : ℕ = linkBetween (run .sites) (q .sender) (q .site) in
+          let p = heardPair (q .serial) (getD (s .ledger .pairs) link noPair) in
+          emptied (Deliver i) i (bookedLedger M absorbedCounter link p (s .ledger)) a (own .0) (own .1) (λ v e. absorbed-sound M (waiting (s .slots)) (s .ledger .counts) (so .3) v e (own .2))
+          (links-kept (Deliver i) link p a (heard-sound (q .serial) _ (entry-sound (Deliver i) (q .sender) (q .site) a (o .3) (o .2) (o .4))));
+      earned = λ a. (refl, refl, one-more M (s .ledger .counts .absorbed) (books (Deliver i) a .absorbed-fits) (deliver-own run s i a .2), refl);
       low = λ low under. (omega arith, omega arith);
     };
   }
@@ -226,8 +249,9 @@ module _ (run : Run) (s : State) where
       counted = λ a.
           let so = accepted-sound run s (Lose i) a in
           let own = lose-own run s i a in
-          emptied (Lose i) i (raisedLedger M lostCounter (s .ledger)) a (own .0) (own .1) (λ v e. lost-sound M (waiting (s .slots)) (s .ledger) (so .3) v e (own .2));
-      earned = λ a. (refl, refl, refl, one-more M (s .ledger .lost) (books (Lose i) a .lost-fits) (lose-own run s i a .2));
+          emptied (Lose i) i (bookedLedger M lostCounter noLink noPair (s .ledger)) a (own .0) (own .1) (λ v e. lost-sound M (waiting (s .slots)) (s .ledger .counts) (so .3) v e (own .2))
+          (links-kept (Lose i) noLink noPair a refl);
+      earned = λ a. (refl, refl, refl, one-more M (s .ledger .counts .lost) (books (Lose i) a .lost-fits) (lose-own run s i a .2));
       low = λ low under. (omega arith, omega arith);
     };
   }

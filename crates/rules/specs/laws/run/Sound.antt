@@ -11,43 +11,45 @@ use Rattle.rules.specs.declared.Step.{Step}
 use Rattle.rules.specs.meaning.Lengths.{M}
 use Rattle.rules.specs.laws.table.View.{Unused}
 use Rattle.rules.specs.laws.run.Zeros.{zeros-unused, zeros-sound}
-use Rattle.rules.specs.meaning.Ledgers.{ledgerSound, emptyLedger}
+use Rattle.rules.specs.meaning.Ledgers.{countsSound, noCounts}
 use Rattle.rules.specs.meaning.States.{State, tableAt, sizesRight, sightOf, StateSound}
 use Rattle.rules.specs.meaning.Steps.{siteIn}
 use Rattle.rules.specs.meaning.Runs.{refusalOf, moved, after, freshRefusal, empty, afterFresh, effectOf}
 use Rattle.rules.specs.laws.run.Slots.{cleared-sound, cleared-length, cleared-waiting}
 use Rattle.rules.specs.laws.run.Ledgers.{balanced-sound}
+use Rattle.rules.specs.laws.run.Links.{begun-sound}
 use Rattle.rules.specs.laws.run.Steps.{pass, after-keeps, accepted-sound}
 use Rattle.rules.specs.laws.run.Rows.{owed}
 pub use Rattle.rules.specs.laws.run.Tables.{words-long}
 
 -- ---- a fresh run
--- an empty ledger balances where nothing waits
-empty-sound : (most : ℕ) → ledgerSound most 0 emptyLedger ≡ true
-empty-sound most = balanced-sound most 0 emptyLedger (omega arith)
+-- no counts balance where nothing waits
+empty-sound : (most : ℕ) → countsSound most 0 noCounts ≡ true
+empty-sound most = balanced-sound most 0 noCounts (omega arith)
 
 -- what making a run fresh tests
 fresh-sizes : (run : Run) (s : State) → freshRefusal run (length (s .words)) (length (s .slots)) ≡ 0 → sizesRight run (length (s .words)) (length (s .slots)) ≡ true
 unfolding freshRefusal
 fresh-sizes run s h = not-false _ (pass 0 _ _ h .0)
 
-empty-state-sound : (run : Run) (s : State) → sizesRight run (length (s .words)) (length (s .slots)) ≡ true → StateSound run (empty s)
-empty-state-sound run s h = (
+empty-state-sound : (run : Run) (first : ℕ) (s : State) → sizesRight run (length (s .words)) (length (s .slots)) ≡ true → StateSound run (empty run first s)
+empty-state-sound run first s h = (
   rw (length-replicate {A = ℕ} (length (s .words)) 0, cleared-length (s .slots)) h,
   rw (words-long run _ _ h) (zeros-sound (run .capacity) (run .sites) M),
   cleared-sound M (run .sites) (s .slots),
   rw (cleared-waiting (s .slots)) (empty-sound M),
+  begun-sound (run .sites) first (s .ledger .pairs),
 )
 
 -- a run made fresh is sound
-pub fresh-sound : (run : Run) (s : State) → freshRefusal run (length (s .words)) (length (s .slots)) ≡ 0 → StateSound run (afterFresh run s)
+pub fresh-sound : (run : Run) (first : ℕ) (s : State) → freshRefusal run (length (s .words)) (length (s .slots)) ≡ 0 → StateSound run (afterFresh run first s)
 unfolding afterFresh
-fresh-sound run s h = rw h (empty-state-sound run s (fresh-sizes run s h))
+fresh-sound run first s h = rw h (empty-state-sound run first s (fresh-sizes run s h))
 
 -- and no place of its tables is in use
-pub fresh-unused : (run : Run) (s : State) → freshRefusal run (length (s .words)) (length (s .slots)) ≡ 0 → (k : ℕ) → Unused (tableAt run (afterFresh run s .words) k)
+pub fresh-unused : (run : Run) (first : ℕ) (s : State) → freshRefusal run (length (s .words)) (length (s .slots)) ≡ 0 → (k : ℕ) → Unused (tableAt run (afterFresh run first s .words) k)
 unfolding afterFresh tableAt
-fresh-unused run s h k = rw (h, words-long run _ _ (fresh-sizes run s h)) (zeros-unused (run .capacity) (run .sites) k)
+fresh-unused run first s h k = rw (h, words-long run _ _ (fresh-sizes run s h)) (zeros-unused (run .capacity) (run .sites) k)
 
 -- ---- a step
 module _ (run : Run) (s : State) (step : Step) where
@@ -69,7 +71,7 @@ module _ (run : Run) (s : State) (step : Step) where
       let so = accepted-sound run s step a in
       let kept = owed run s step .tables .gains a in
       let slots = owed run s step .parcels .counted a in
-      (rw (kept .as-many, length-set (s .slots) (effectOf run s step .post .place) (effectOf run s step .post .parcel)) (so .0), kept .all-sound, slots .0, slots .1)
+      (rw (kept .as-many, length-set (s .slots) (effectOf run s step .post .place) (effectOf run s step .post .parcel)) (so .0), kept .all-sound, slots .0, slots .1, slots .2)
 
   -- whatever the step, a sound state is followed by a sound one
   pub after-sound : StateSound run s → StateSound run (after run s step)

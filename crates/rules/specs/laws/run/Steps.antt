@@ -18,7 +18,9 @@ use Rattle.rules.specs.declared.Step.the-variants.{Add, Remove, Send, Me
 use Rattle.rules.specs.meaning.Lengths.{M}
 use Rattle.rules.specs.meaning.Table.{lengthOf}
 use Rattle.rules.specs.laws.table.View.{parts}
-use Rattle.rules.specs.meaning.Parcels.{noParcel, isOccupied, slotsSound, lowestFree}
+use Rattle.rules.specs.meaning.Parcels.{noParcel, isOccupied, slotsSound, waiting, lowestFree}
+use Rattle.rules.specs.meaning.Links.{incomparable}
+use Rattle.rules.specs.meaning.Ledgers.{countsSound}
 use Rattle.rules.specs.meaning.States.{State, width, tableAt, tablesSound, allSound, sightOf, StateSound}
 use Rattle.rules.specs.meaning.Kinds.{slotOf, numbers}
 use Rattle.rules.specs.meaning.Refusals.{Test, _when_, firstGiven}
@@ -79,7 +81,7 @@ module _ (run : Run) (s : State) (step : Step) where
   -- what the state is, as 2 judges it
   pub sound-all : StateSound run s → allSound run (s .words) (sightOf run s step) ≡ true
   unfolding allSound
-  sound-all h = rw (h .1, h .2, h .3)
+  sound-all h = rw (h .1, h .2, h .3, h .4)
 
   -- in a sound state only the step's own tests can refuse, so neither 1 nor 2 is ever met
   pub sound-judged : StateSound run s → refusalOf run s step ≡ firstGiven (effectOf run s step .tests)
@@ -94,7 +96,8 @@ module _ (run : Run) (s : State) (step : Step) where
       let b = pass 1 _ _ (a .1) in
       let c = parts (tablesSound M (width run) (run .sites) (s .words)) _ (not-false _ (b .0)) in
       let d = parts (slotsSound M (run .sites) (s .slots)) _ (c .1) in
-      (not-false _ (a .0), c .0, d .0, d .1)
+      let e = parts (countsSound M (waiting (s .slots)) (s .ledger .counts)) _ (d .1) in
+      (not-false _ (a .0), c .0, d .0, e .0, e .1)
 
   -- and none of its own tests refused it
   pub accepted-own : refusalOf run s step ≡ 0 → firstGiven (effectOf run s step .tests) ≡ 0
@@ -119,9 +122,10 @@ module _ (run : Run) (s : State) where
       let a = neither _ _ (pass 2 _ _ (accepted-own run s (Merge f t) h) .0) in
       (leb-false _ _ (a .0), leb-false _ _ (a .1))
 
-  -- an accepted send: both sites are of the run, the sender holds the id, a slot is free, and the sent count is not at the largest
+  -- an accepted send: both sites are of the run, the sender holds the id, a slot is free, the sent count is not at the largest, and the sites differ
   pub send-own : (f t e : ℕ) → refusalOf run s (Send f t e) ≡ 0
-      → (f < run .sites) × (t < run .sites) × (1 ≤ lengthOf (tableAt run (s .words) f) e) × (lowestFree (s .slots) < length (s .slots)) × (eqb (s .ledger .sent) M ≡ false)
+      → (f < run .sites) × (t < run .sites) × (1 ≤ lengthOf (tableAt run (s .words) f) e) × (lowestFree (s .slots) < length (s .slots)) × (eqb (s .ledger .counts .sent) M ≡ false)
+      × (f ≡ t → ⊥)
   unfolding effect
   send-own f t e h =
       let a = pass 2 _ _ (accepted-own run s (Send f t e) h) in
@@ -131,7 +135,7 @@ module _ (run : Run) (s : State) where
       let g = pass 9 _ _ (d .1) in
       let some : 1 ≤ lengthOf (tableAt run (s .words) f) e = omega (arith, eqb-false (lengthOf (tableAt run (s .words) f) e) 0 (c .0)) in
       let sites = neither _ _ (a .0) in
-      (leb-false _ _ (sites .0), leb-false _ _ (sites .1), some, leb-false _ _ (d .0), g .0)
+      (leb-false _ _ (sites .0), leb-false _ _ (sites .1), some, leb-false _ _ (d .0), g .0, eqb-false f t (b .0))
 
   -- a slot where something is
   there : (i : ℕ) (p : Parcel) → leb (length (s .slots)) i || not (isOccupied M (run .sites) p) ≡ false → (i < length (s .slots)) × (isOccupied M (run .sites) p ≡ true)
@@ -141,18 +145,18 @@ module _ (run : Run) (s : State) where
 
   -- an accepted delivery: the slot is occupied, and the absorbed count is not at the largest
   pub deliver-own : (i : ℕ) → refusalOf run s (Deliver i) ≡ 0
-      → (i < length (s .slots)) × (isOccupied M (run .sites) (getD (s .slots) i noParcel) ≡ true) × (eqb (s .ledger .absorbed) M ≡ false)
+      → (i < length (s .slots)) × (isOccupied M (run .sites) (getD (s .slots) i noParcel) ≡ true) × (eqb (s .ledger .counts .absorbed) M ≡ false)
   unfolding slotOf numbers effect
   deliver-own i h =
       let a = pass 4 _ _ (accepted-own run s (Deliver i) h) in
-      let b = pass 7 _ _ (a .1) in
+      let b = pass 7 _ _ (pass 14 _ _ (a .1) .1) in
       let c = pass 9 _ _ (b .1) in
       let d = there i (getD (s .slots) i noParcel) (a .0) in
       (d .0, d .1, c .0)
 
   -- an accepted copy: the slot is occupied, another is free, and the copied count is not at the largest
   pub again-own : (i : ℕ) → refusalOf run s (Again i) ≡ 0
-      → (i < length (s .slots)) × (isOccupied M (run .sites) (getD (s .slots) i noParcel) ≡ true) × (lowestFree (s .slots) < length (s .slots)) × (eqb (s .ledger .copied) M ≡ false)
+      → (i < length (s .slots)) × (isOccupied M (run .sites) (getD (s .slots) i noParcel) ≡ true) × (lowestFree (s .slots) < length (s .slots)) × (eqb (s .ledger .counts .copied) M ≡ false)
   unfolding slotOf numbers effect
   again-own i h =
       let a = pass 4 _ _ (accepted-own run s (Again i) h) in
@@ -163,7 +167,7 @@ module _ (run : Run) (s : State) where
 
   -- an accepted loss: the slot is occupied, and the lost count is not at the largest
   pub lose-own : (i : ℕ) → refusalOf run s (Lose i) ≡ 0
-      → (i < length (s .slots)) × (isOccupied M (run .sites) (getD (s .slots) i noParcel) ≡ true) × (eqb (s .ledger .lost) M ≡ false)
+      → (i < length (s .slots)) × (isOccupied M (run .sites) (getD (s .slots) i noParcel) ≡ true) × (eqb (s .ledger .counts .lost) M ≡ false)
   unfolding slotOf numbers effect
   lose-own i h =
       let a = pass 4 _ _ (accepted-own run s (Lose i) h) in

@@ -1,13 +1,13 @@
 -- The tables of a sound state: each is as laid out and of the run's size, and one of that size put in is read there and nowhere else.
 -- Assumes nothing.
-use Prim.Native.Nat.{ℕ, _*_, _<_}
+use Prim.Native.Nat.{ℕ, _*_, _≤_, _<_}
 use native.Mathlib.Omega.{arith}
 use mathlib.Core.Bool.{true}
 use mathlib.Core.Path.{_≡_, _∙_}
 use mathlib.Core.List.{List}
 use lib.ListN.{length, length-take, length-drop}
 use lib.Dec.{leb}
-use borrow.Author.Tests.{eqb-true}
+use borrow.Author.Tests.{leb-true, eqb-true}
 use Rattle.rules.specs.declared.Run.{Run}
 use Rattle.rules.specs.meaning.Lengths.{M}
 use Rattle.rules.specs.meaning.Table.{sound, capacity}
@@ -24,6 +24,11 @@ words-long run words slots h =
     let d = parts (leb (run .capacity) 2048) _ (b .1) in
     let e = parts (leb slots 1024) _ (d .1) in
     eqb-true _ _ (e .1)
+
+-- and the sites are as many as the ledger has entries for
+pub few-sites : (run : Run) (words slots : ℕ) → sizesRight run words slots ≡ true → run .sites ≤ 16
+unfolding sizesRight
+few-sites run words slots h = leb-true _ _ (parts (leb (run .sites) 16) _ (parts (leb 1 (run .sites)) _ h .1) .0)
 
 module _ (run : Run) (s : State) (ok : StateSound run s) (k : ℕ) (in-run : k < run .sites) where
   long : length (s .words) ≡ run .sites * width run
