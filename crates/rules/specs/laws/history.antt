@@ -2,6 +2,7 @@
 pub mod Figure4
 pub mod Rising
 pub mod Counting
+pub mod Links
 pub mod Pairs
 pub mod Absorbing
 pub mod Distinct

@@ -1,14 +1,18 @@
 -- What a list of steps makes of a run, and what its sites take in on the way: the words of demands 2 and 3.
 -- Assumes nothing.
-use Prim.Native.Nat.{ℕ, suc, _+_}
+use Prim.Native.Nat.{ℕ, zero, suc, _+_}
 use mathlib.Core.Bool.{Bool, true, false, _&&_, _||_, cond}
 use mathlib.Core.List.{List, [], _∷_, _++_}
 use lib.ListN.{length}
 use lib.Dec.{eqb}
 use Rattle.rules.specs.declared.Run.{Run}
+use Rattle.rules.specs.declared.Pair.{Pair}
 use Rattle.rules.specs.declared.Step.{Step}
 use Rattle.rules.specs.meaning.Lengths.{join}
 use Rattle.rules.specs.meaning.Table.{lengthOf}
+use Rattle.rules.specs.meaning.Serials.{nextSerial}
+use Rattle.rules.specs.meaning.Links.{pairAt}
+use Rattle.rules.specs.meaning.Kinds.{numbers, isSend}
 use Rattle.rules.specs.meaning.States.{State, tableAt, sightOf}
 use Rattle.rules.specs.meaning.Steps.{Entry, siteIn}
 use Rattle.rules.specs.meaning.Runs.{refusalOf, effectOf, after}
@@ -31,6 +35,26 @@ isAccepted run s step = eqb (refusalOf run s step) 0
 unfoldable pub acceptedOf : (Step → Bool) → Run → State → List Step → ℕ
 acceptedOf kind run s [] = 0
 acceptedOf kind run s (step ∷ steps) = cond (isAccepted run s step && kind step) 1 0 + acceptedOf kind run (after run s step) steps
+
+-- ---- what goes out on a link
+-- the entry of the link from site a to site b
+abbrev pub pairIn : State → ℕ → ℕ → Pair
+pairIn s a b = pairAt a b (s .ledger .pairs)
+
+-- a send from site a to site b
+abbrev pub isSendOn : ℕ → ℕ → Step → Bool
+isSendOn a b step = isSend step && (eqb (numbers step .first) a && eqb (numbers step .second) b)
+
+-- the serials that a list of steps sends there, in order: that of the parcel of each accepted send
+unfoldable pub sentOn : Run → State → ℕ → ℕ → List Step → List ℕ
+sentOn run s a b [] = []
+sentOn run s a b (step ∷ steps) =
+    cond (isAccepted run s step && isSendOn a b step) (effectOf run s step .post .parcel .serial ∷ []) [] ++ sentOn run (after run s step) a b steps
+
+-- so many serials, from one on
+unfoldable pub serialsFrom : ℕ → ℕ → List ℕ
+serialsFrom n zero = []
+serialsFrom n (suc k) = n ∷ serialsFrom (nextSerial n) k
 
 -- ---- what a site absorbs: "by accepted steps only: its own adds and removes, the updates delivered to it, and the tables merged into it
 -- as they then stood"

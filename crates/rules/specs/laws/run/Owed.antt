@@ -7,23 +7,24 @@ use native.Mathlib.Omega.{arith}
 use mathlib.Core.Bool.{Bool, true, false, _&&_, cond}
 use mathlib.Core.Path.{_≡_, refl}
 use mathlib.Core.List.{List, [], _∷_, _++_}
-use lib.ListN.{length}
+use lib.ListN.{length, getD}
 use lib.Seq.{set-out}
 use lib.Dec.{leb}
 use borrow.Author.Tests.{leb-true}
 use Rattle.rules.specs.declared.Run.{Run}
 use Rattle.rules.specs.declared.Parcel.{Parcel}
+use Rattle.rules.specs.declared.Pair.{Pair}
 use Rattle.rules.specs.declared.Ledger.{Ledger}
 use Rattle.rules.specs.declared.Step.{Step}
 use Rattle.rules.specs.meaning.Lengths.{M, join}
 use Rattle.rules.specs.meaning.Table.{lengthOf}
 use Rattle.rules.specs.laws.table.View.{parts}
 use Rattle.rules.specs.meaning.Parcels.{noParcel, slotsSound, waiting, lowestFree}
-use Rattle.rules.specs.meaning.Links.{noLink, noPair, pairSound, linksSound}
+use Rattle.rules.specs.meaning.Links.{noLink, noPair, pairSound, sentPair, heardPair, linksSound}
 use Rattle.rules.specs.meaning.Ledgers.{countsSound, raisedIf}
 use Rattle.rules.specs.meaning.Refusals.{Test, firstGiven}
-use Rattle.rules.specs.meaning.Kinds.{isSend, isAgain, isDeliver, isLose, takesSlot, freesSlot}
-use Rattle.rules.specs.meaning.States.{State, StateSound, width, tableAt, tablesSound, sightOf}
+use Rattle.rules.specs.meaning.Kinds.{numbers, isSend, isAgain, isDeliver, isLose, takesSlot, freesSlot, slotOf, linkOf}
+use Rattle.rules.specs.meaning.States.{State, StateSound, width, tableAt, tablesSound, parcelAt, sightOf}
 use Rattle.rules.specs.meaning.Steps.{idsOf, Gain, noPost, noGain, siteIn}
 use Rattle.rules.specs.meaning.Runs.{effectOf, refusalOf, valueOf, moved}
 use Rattle.rules.specs.meaning.Acts.{lowTaken}
@@ -78,6 +79,22 @@ Earned kind before after = after ≡ cond kind (suc before) before
 abbrev pub Low : Step → ℕ → ℕ → ℕ → Type 0
 Low step free value place = (low : ℕ) → low ≤ free → (lowTaken low step value ≤ place) × (lowTaken low step value ≤ free)
 
+-- the parcel that a step names, and the entry of the link that it names
+abbrev pub named : State → Step → Parcel
+named s step = parcelAt s (slotOf step)
+
+abbrev pub linkPair : Run → State → Step → Pair
+linkPair run s step = getD (s .ledger .pairs) (linkOf (run .sites) (named s step) step) noPair
+
+-- what a step makes of the entry of its link: a send takes its next serial, a delivery may move on the newest heard
+abbrev pub pairAfter : Step → ℕ → Pair → Pair
+pairAfter step serial p = cond (isSend step) (sentPair p) (cond (isDeliver step) (heardPair serial p) noPair)
+
+-- what it puts into its slot: the parcel of a send, a copy of the parcel that it names, or none
+abbrev pub parcelAfter : Step → ℕ → Parcel → ℕ → Parcel
+parcelAfter step n named serial =
+    cond (isSend step) (record { site = numbers step .second; id = numbers step .id; length = n; sender = numbers step .first; serial = serial }) (cond (isAgain step) named noParcel)
+
 -- ---- what a step owes
 module _ (run : Run) (s : State) (step : Step) where
   -- of the tables: what the site that gains gets, and that what it needs room for was offered: refused with 8, the ids that the site holds are, with
@@ -87,7 +104,8 @@ module _ (run : Run) (s : State) (step : Step) where
     pub crowds : StateSound run s → siteIn run (sightOf run s step) step < run .sites → refusalOf run s step ≡ 8
         → run .capacity < distinct (effectOf run s step .gain .offer ++ idsOf (tableAt run (s .words) (siteIn run (sightOf run s step) step)))
 
-  -- of the parcels: the slots and the ledger stay sound, and each counter is one more where the step is of its kind: sent, copied, absorbed, lost
+  -- of the parcels: the slots and the ledger stay sound, and each counter is one more where the step is of its kind: sent, copied, absorbed, lost; which
+  -- link's entry is set, to what, and which parcel is put
   pub record ParcelsOwed : Type 0 where
     pub counted : refusalOf run s step ≡ 0 → Counted run (moved run s step .slots) (moved run s step .ledger)
     pub earned : refusalOf run s step ≡ 0
@@ -96,6 +114,9 @@ module _ (run : Run) (s : State) (step : Step) where
         × Earned (isDeliver step) (s .ledger .counts .absorbed) (moved run s step .ledger .counts .absorbed)
         × Earned (isLose step) (s .ledger .counts .lost) (moved run s step .ledger .counts .lost)
     pub low : Low step (lowestFree (s .slots)) (valueOf run s step) (effectOf run s step .post .place)
+    pub link : effectOf run s step .post .link ≡ linkOf (run .sites) (named s step) step
+    pub pair : effectOf run s step .post .pair ≡ pairAfter step (named s step .serial) (linkPair run s step)
+    pub parcel : effectOf run s step .post .parcel ≡ parcelAfter step (effectOf run s step .post .parcel .length) (named s step) (linkPair run s step .next)
 
   -- and of its tests: their numbers begin at 3, since 1 and 2 judge the state, and have two digits at most
   pub record Owed : Type 0 where
@@ -119,7 +140,7 @@ module _ (run : Run) (s : State) (step : Step) where
 
   -- ---- a step that leaves the parcels alone
   pub quiet : effectOf run s step .post ≡ noPost (sightOf run s step) → takesSlot step ≡ false → freesSlot step ≡ false → ParcelsOwed
-  unfolding raisedIf lowTaken pairSound
+  unfolding raisedIf lowTaken pairSound linkOf
   quiet none takes frees =
       let t = neither (isSend step) (isAgain step) takes in
       let f = neither (isDeliver step) (isLose step) frees in
@@ -129,4 +150,7 @@ module _ (run : Run) (s : State) (step : Step) where
             rw (none, set-out (s .slots) (length (s .slots)) noParcel (le-refl (length (s .slots)))) (so .2, so .3, set-links-sound (run .sites) (s .ledger .pairs) noLink noPair (so .4) refl);
         earned = λ a. rw (none, t .0, t .1, f .0, f .1) (refl, refl, refl, refl);
         low = λ low under. rw (none, takes, frees) (le-trans under (lowest-within (s .slots)), under);
+        link = rw (none, t .0, f .0);
+        pair = rw (none, t .0, f .0);
+        parcel = rw (none, t .0, t .1);
       }

@@ -190,6 +190,9 @@ module _ (run : Run) (s : State) where
           (links-kept (Send f t e) link (sentPair q) a (entry-sound (Send f t e) f t a (own .0) (own .1) (own .5)));
       earned = λ a. (one-more M (s .ledger .counts .sent) (books (Send f t e) a .sent-fits) (send-own run s f t e a .4), refl, refl, refl);
       low = as-taken;
+      link = refl;
+      pair = refl;
+      parcel = refl;
     };
   }
   owed (Again i) = record {
@@ -203,6 +206,9 @@ module _ (run : Run) (s : State) where
           (links-kept (Again i) noLink noPair a refl);
       earned = λ a. (refl, one-more M (s .ledger .counts .copied) (books (Again i) a .copied-fits) (again-own run s i a .3), refl, refl);
       low = as-taken;
+      link = refl;
+      pair = refl;
+      parcel = refl;
     };
   }
   owed (Deliver i) = record {
@@ -240,6 +246,9 @@ module _ (run : Run) (s : State) where
           (links-kept (Deliver i) link p a (heard-sound (q .serial) _ (entry-sound (Deliver i) (q .sender) (q .site) a (o .3) (o .2) (o .4))));
       earned = λ a. (refl, refl, one-more M (s .ledger .counts .absorbed) (books (Deliver i) a .absorbed-fits) (deliver-own run s i a .2), refl);
       low = λ low under. (omega arith, omega arith);
+      link = refl;
+      pair = refl;
+      parcel = refl;
     };
   }
   owed (Lose i) = record {
@@ -253,6 +262,9 @@ module _ (run : Run) (s : State) where
           (links-kept (Lose i) noLink noPair a refl);
       earned = λ a. (refl, refl, refl, one-more M (s .ledger .counts .lost) (books (Lose i) a .lost-fits) (lose-own run s i a .2));
       low = λ low under. (omega arith, omega arith);
+      link = refl;
+      pair = refl;
+      parcel = refl;
     };
   }
   owed (Merge f t) = record {

@@ -147,6 +147,12 @@ unfolding slotsSound cleared isFree
 cleared-sound most sites [] = refl
 cleared-sound most sites (x ∷ xs) = cleared-sound most sites xs
 
+pub cleared-at : (ss : List Parcel) (i : ℕ) → getD (cleared (length ss) ss) i noParcel ≡ noParcel
+unfolding cleared
+cleared-at [] i = refl
+cleared-at (x ∷ xs) zero = refl
+cleared-at (x ∷ xs) (suc i) = cleared-at xs i
+
 pub cleared-length : (ss : List Parcel) → length (cleared (length ss) ss) ≡ length ss
 unfolding cleared
 cleared-length [] = refl

@@ -28,7 +28,7 @@ empty-sound : (most : ℕ) → countsSound most 0 noCounts ≡ true
 empty-sound most = balanced-sound most 0 noCounts (omega arith)
 
 -- what making a run fresh tests
-fresh-sizes : (run : Run) (s : State) → freshRefusal run (length (s .words)) (length (s .slots)) ≡ 0 → sizesRight run (length (s .words)) (length (s .slots)) ≡ true
+pub fresh-sizes : (run : Run) (s : State) → freshRefusal run (length (s .words)) (length (s .slots)) ≡ 0 → sizesRight run (length (s .words)) (length (s .slots)) ≡ true
 unfolding freshRefusal
 fresh-sizes run s h = not-false _ (pass 0 _ _ h .0)
 
