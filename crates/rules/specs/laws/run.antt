@@ -8,6 +8,8 @@ pub mod Links
 pub mod Steps
 pub mod Owed
 pub mod Rows
+pub mod Reads
+pub mod Lags
 pub mod Sound
 pub mod Acts
 pub mod Bursts
