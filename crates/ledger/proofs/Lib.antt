@@ -1,2 +1,7 @@
+pub mod Calls
+pub mod Entry
 pub mod Judging
 pub mod Lent
+pub mod OnLedger
+pub mod Passing
+pub mod Within

@@ -1,96 +1,109 @@
-// The ledger: whether it is sound, one counter raised, all counters emptied. What each means is said in `specs/` of the crate `rules`.
-// The work is done by value, where no proof by hand is needed; `raise` and `empty` only put the result back where it was lent from.
+// The ledger: the counts, and an entry for each link of a run. What each means is said in `specs/` of the crate `rules`.
+// Here the ledger is lent: it is looked into, stored to and passed on, and no function copies the entries. What is decided is decided by value,
+// in the modules, where no proof by hand is needed.
+mod counting;
+mod links;
+mod pairs;
+mod serial;
+
+use crate::counting::emptied;
+use crate::counting::raised;
+use crate::links::first_link;
+use crate::links::next_link;
+use crate::links::sites_of;
+use crate::links::sites_to_start;
+use crate::pairs::is_sound;
+use crate::pairs::start_pair;
+pub use counting::sound;
+pub use links::link_between;
+pub use pairs::heard_pair;
+pub use pairs::incomparable;
+pub use pairs::lag_of;
+pub use pairs::lag_undefined;
+pub use pairs::sent_pair;
+pub use pairs::silent;
 use rules::Ledger;
-use rules::M;
+use rules::Pair;
+use rules::Seen;
 ghost use mathlib.Core.Path.{_≡_};
+ghost use lib.ListN.{getD};
 ghost use Rattle.rules.specs.meaning.Lengths.{M};
-ghost use Rattle.rules.specs.meaning.Ledgers.{ledgerSound, oneMore, raisedIf, raisedLedger, emptiedIf};
+ghost use Rattle.rules.specs.meaning.Links.{noPair, linksSound};
+ghost use Rattle.rules.specs.meaning.Ledgers.{seenOf, bookedLedger, startedIf};
 
-// Whether each counter is at most the largest, and what went out is what came in or waits. The counters are bounded before they are
-// added, and the difference is compared, so that nothing wraps however many are said to wait.
-pub fn sound(ledger: Ledger, waiting: u64) -> bool
-    ensures { λ r. ⌜ r ≡ ledgerSound M waiting ledger ⌝ }
+// The entry of a link. Past the last one there is none, and nothing is read.
+fn read_pair(ledger: &Ledger, link: usize) -> Pair
+    ensures { λ r. ⌜ r ≡ getD (now (ledger .entry) .pairs) link noPair ⌝ }
 {
-    if M < ledger.sent {
-        return false;
-    }
-    if M < ledger.copied {
-        return false;
-    }
-    if M < ledger.absorbed {
-        return false;
-    }
-    if M < ledger.lost {
-        return false;
-    }
-    let out = ledger.sent + ledger.copied;
-    let back = ledger.absorbed + ledger.lost;
-    if out < back {
-        return false;
-    }
-    out - back == waiting
-}
-
-// One more, and no more than the largest.
-fn one_more(n: u64) -> u64
-    ensures { λ r. ⌜ r ≡ oneMore M n ⌝ }
-{
-    if n < M { n + 1 } else { n }
-}
-
-// One more where this counter is the one that is named.
-fn raised_if(named: bool, n: u64) -> u64
-    ensures { λ r. ⌜ r ≡ raisedIf M named n ⌝ }
-{
-    if named { one_more(n) } else { n }
-}
-
-// The ledger with the named counter raised; 0, and any number above 4, names none.
-pub fn raised(ledger: Ledger, counter: u64) -> Ledger
-    ensures { λ r. ⌜ r ≡ raisedLedger M counter ledger ⌝ }
-{
-    let sent = raised_if(counter == 1, ledger.sent);
-    let copied = raised_if(counter == 2, ledger.copied);
-    let absorbed = raised_if(counter == 3, ledger.absorbed);
-    let lost = raised_if(counter == 4, ledger.lost);
-    Ledger {
-        sent: sent,
-        copied: copied,
-        absorbed: absorbed,
-        lost: lost,
-    }
-}
-
-// The empty ledger where that is wanted, else the ledger as it is.
-pub fn emptied(ledger: Ledger, wanted: bool) -> Ledger
-    ensures { λ r. ⌜ r ≡ emptiedIf wanted ledger ⌝ }
-{
-    if wanted {
-        Ledger {
-            sent: 0,
-            copied: 0,
-            absorbed: 0,
-            lost: 0,
-        }
+    if link < 256 {
+        ledger.pairs[link]
     } else {
-        ledger
+        Pair {
+            next: 0,
+            heard: 0,
+            unsent: 0,
+            unheard: 0,
+        }
     }
 }
 
-// `raised`, on a ledger that is lent.
-pub fn raise(ledger: &mut Ledger, counter: u64)
-    ensures { λ _. ⌜ now (ledger .exit) ≡ raisedLedger M counter (now (ledger .entry)) ⌝ }
+// Whether the entry of each link of the run is sound. It goes from link to link, so no other entry is read; and it never stops early, so that a
+// turn has no branch but the loop's own.
+fn links_sound(ledger: &Ledger, sites: u64) -> bool
+    ensures { λ r. ⌜ r ≡ linksSound sites (now (ledger .entry) .pairs) ⌝ }
 {
-    let before = *ledger;
-    let after = raised(before, counter);
-    *ledger = after;
+    let n = sites_of(sites);
+    let mut good = true;
+    let mut link = first_link(n);
+    while link.from < n {
+        let at = 16 * link.from + link.to;
+        let right = is_sound(ledger.pairs[at]);
+        link = next_link(link, n);
+        good = good & right;
+    }
+    good
 }
 
-// `emptied`, on a ledger that is lent.
-pub fn empty(ledger: &mut Ledger, wanted: bool)
-    ensures { λ _. ⌜ now (ledger .exit) ≡ emptiedIf wanted (now (ledger .entry)) ⌝ }
+// All that a step asks of the ledger.
+pub fn see(ledger: &Ledger, sites: u64, link: usize) -> Seen
+    ensures { λ r. ⌜ r ≡ seenOf sites link (now (ledger .entry)) ⌝ }
 {
-    let kept = *ledger;
-    let left = emptied(kept, wanted);
-    *ledger = left;
+    let counts = ledger.counts;
+    let pair = read_pair(ledger, link);
+    let sound = links_sound(ledger, sites);
+    Seen {
+        counts: counts,
+        pair: pair,
+        sound: sound,
+    }
+}
+
+// All that a step changes of the ledger. Counter 0, and any above 4, raises none; a link past the last entry sets none.
+pub fn book(ledger: &mut Ledger, counter: u64, link: usize, pair: Pair)
+    ensures { λ _. ⌜ now (ledger .exit) ≡ bookedLedger M counter link pair (now (ledger .entry)) ⌝ }
+{
+    let before = ledger.counts;
+    let after = raised(before, counter);
+    ledger.counts = after;
+    if link < 256 {
+        ledger.pairs[link] = pair;
+    }
+}
+
+// What a fresh run makes of the ledger, where that is wanted. Where it is not, the loop goes over the links of no site, so no branch is needed.
+pub fn start(ledger: &mut Ledger, wanted: bool, sites: u64, first: u32)
+    ensures { λ _. ⌜ now (ledger .exit) ≡ startedIf wanted sites first (now (ledger .entry)) ⌝ }
+{
+    let before = ledger.counts;
+    let after = emptied(before, wanted);
+    ledger.counts = after;
+    let n = sites_to_start(wanted, sites);
+    let pair = start_pair(first);
+    let mut link = first_link(n);
+    while link.from < n {
+        let at = 16 * link.from + link.to;
+        ledger.pairs[at] = pair;
+        let next = next_link(link, n);
+        link = next;
+    }
 }

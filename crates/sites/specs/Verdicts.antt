@@ -6,43 +6,48 @@ use mathlib.Core.Bool.{true, cond}
 use mathlib.Core.List.{List, [], _∷_}
 use lib.ListN.{length, replicate}
 use lib.Dec.{eqb}
+use lib.IntN.{pos}
 use Rattle.rules.specs.declared.Answer.{Answer}
 use Rattle.rules.specs.declared.Run.{Run}
 use Rattle.rules.specs.declared.Parcel.{Parcel}
-use Rattle.rules.specs.declared.Ledger.{Ledger}
+use Rattle.rules.specs.declared.Pair.{Pair}
+use Rattle.rules.specs.declared.Seen.{Seen}
+use Rattle.rules.specs.declared.Lag.{Lag}
 use Rattle.rules.specs.declared.Scan.{Scan}
 use Rattle.rules.specs.declared.Sight.{Sight}
 use Rattle.rules.specs.declared.Step.{Step}
 use Rattle.rules.specs.meaning.Lengths.{M}
 use Rattle.rules.specs.meaning.Operations.{unlessRefused}
 use Rattle.rules.specs.meaning.Parcels.{noParcel}
+use Rattle.rules.specs.meaning.Links.{noLink, noPair}
 use Rattle.rules.specs.meaning.Ledgers.{noCounter, absorbedCounter}
 use Rattle.rules.specs.meaning.Refusals.{firstGiven, _when_}
 use Rattle.rules.specs.meaning.States.{width, tablesSound}
 use Rattle.rules.specs.meaning.Steps.{Post, puts, frees, noFreeSlot, effect}
 use Rattle.rules.specs.meaning.Runs.{judgeTests, freshRefusal}
+use Rattle.rules.specs.meaning.Lags.{lagTests}
 use Rattle.sites.specs.declared.verdict.Verdict.{Verdict}
 
 -- nothing to change
 abbrev pub refusedVerdict : ℕ → ℕ → Verdict
-refusedVerdict number count = record { refusal = number; value = 0; counter = noCounter; at = count; parcel = noParcel }
+refusedVerdict number count = record { refusal = number; value = 0; counter = noCounter; at = count; parcel = noParcel; link = noLink; pair = noPair }
 
 abbrev pub tableVerdict : Answer → ℕ → Verdict
-tableVerdict a count = record { refusal = a .refusal; value = a .value; counter = noCounter; at = count; parcel = noParcel }
+tableVerdict a count = record { refusal = a .refusal; value = a .value; counter = noCounter; at = count; parcel = noParcel; link = noLink; pair = noPair }
 
 -- a verdict by its refusal: where it is accepted the value, and what becomes of the slots and the ledger
 abbrev pub verdict : ℕ → ℕ → Post → ℕ → Verdict
-verdict zero value post count = record { refusal = 0; value = value; counter = post .counter; at = post .place; parcel = post .parcel }
+verdict zero value post count = record { refusal = 0; value = value; counter = post .counter; at = post .place; parcel = post .parcel; link = post .link; pair = post .pair }
 verdict (suc r) value post count = refusedVerdict (suc r) count
 
--- a new parcel in the lowest free slot
-unfoldable pub posted : Sight → Parcel → ℕ → ℕ → Verdict
-posted si p counter counted =
-    verdict (firstGiven ((9 when noFreeSlot si) ∷ (10 when eqb counted M) ∷ [])) (si .scan .free) (puts si p counter) (si .count)
+-- a new parcel in the lowest free slot, and an entry for its link
+unfoldable pub posted : Sight → Parcel → ℕ → ℕ → ℕ → Pair → Verdict
+posted si p counter counted link pair =
+    verdict (firstGiven ((9 when noFreeSlot si) ∷ (10 when eqb counted M) ∷ [])) (si .scan .free) (puts si p counter link pair) (si .count)
 
--- an update that was taken to its site's table: the slot is freed and the update counted where the table took it
-abbrev pub delivered : Answer → ℕ → ℕ → Verdict
-delivered a slot count = verdict (a .refusal) (a .value) (frees slot absorbedCounter) count
+-- an update that was taken to its site's table: the slot is freed, the update counted and its serial heard where the table took it
+abbrev pub delivered : Answer → ℕ → ℕ → ℕ → Pair → Verdict
+delivered a slot count link pair = verdict (a .refusal) (a .value) (frees slot absorbedCounter link pair) count
 
 -- ---- once the state is judged
 unfoldable pub stepRefusal : Run → List ℕ → Sight → Step → ℕ
@@ -62,12 +67,12 @@ unfoldable pub judgement : Run → List ℕ → Sight → ℕ
 judgement run ws si = firstGiven (judgeTests run ws si)
 
 -- the same from the parts that `step` hands over
-abbrev pub seenAs : Scan → Parcel → ℕ → Ledger → Sight
-seenAs scan held slots l = record { scan = scan; named = held; count = slots; ledger = l }
+abbrev pub seenAs : Scan → Parcel → ℕ → Seen → Sight
+seenAs scan held slots books = record { scan = scan; named = held; count = slots; books = books }
 
 -- ---- what is seen once the state is judged: of the pass over the slots only the lowest free one, and that where the step puts a parcel there
-abbrev pub lookedAt : ℕ → Parcel → ℕ → Ledger → Sight
-lookedAt free held slots l = seenAs (record { sound = true; waiting = 0; free = free }) held slots l
+abbrev pub lookedAt : ℕ → Parcel → ℕ → Seen → Sight
+lookedAt free held slots books = seenAs (record { sound = true; waiting = 0; free = free }) held slots books
 
 -- a step that something has refused with a number before, or with 0 where nothing has
 unfoldable pub verdictUnder : ℕ → Run → List ℕ → Sight → Step → Verdict
@@ -81,6 +86,14 @@ wordsUnder (suc r) run ws si step = ws
 -- what a verdict answers
 abbrev pub answerIn : Verdict → Answer
 answerIn v = record { refusal = v .refusal; value = v .value }
+
+-- ---- the lag query
+abbrev pub refusedLag : ℕ → Lag
+refusedLag number = record { refusal = number; lag = pos 0 }
+
+-- its own tests, once the state is judged
+unfoldable pub ownLagRefusal : Run → Seen → ℕ → ℕ → ℕ
+ownLagRefusal run books from to = firstGiven (lagTests run (books .pair) from to)
 
 -- ---- a fresh run
 unfoldable pub freshWords : Run → List ℕ → ℕ → List ℕ

@@ -7,16 +7,18 @@ use crate::one::on_remove;
 use crate::posts::on_again;
 use crate::posts::on_lose;
 use crate::posts::on_send;
+use crate::verdict::NO_LINK;
 use crate::verdict::Verdict;
 use crate::verdict::refuse;
-use rules::Ledger;
+use ledger::link_between;
 use rules::Parcel;
 use rules::Run;
 use rules::Scan;
+use rules::Seen;
 use rules::Sight;
 use rules::Step;
 ghost use mathlib.Core.Path.{_≡_};
-ghost use Rattle.rules.specs.meaning.Kinds.{slotOf, takesSlot};
+ghost use Rattle.rules.specs.meaning.Kinds.{slotOf, linkOf, takesSlot};
 ghost use Rattle.sites.specs.Verdicts.{Ready, lookedAt, verdictUnder, wordsUnder};
 
 // The slot that a step names. A step that names none reads slot 0, and makes nothing of it.
@@ -59,6 +61,22 @@ pub(crate) fn needs_slot(step: Step) -> bool
     }
 }
 
+// The link that a step names, whose entry it is to see: a send's by its two sites, a delivery's by the parcel in its slot.
+pub(crate) fn link_of(step: Step, held: Parcel, sites: u64) -> usize
+    ensures { λ r. ⌜ r ≡ linkOf sites held step ⌝ }
+{
+    match step {
+        Step::Add { site: _, id: _ } => NO_LINK,
+        Step::Remove { site: _, id: _ } => NO_LINK,
+        Step::Query { site: _, id: _ } => NO_LINK,
+        Step::Send { from, to, id: _ } => link_between(sites, from, to),
+        Step::Merge { from: _, to: _ } => NO_LINK,
+        Step::Deliver { slot: _ } => link_between(sites, held.sender as u64, held.site),
+        Step::Again { slot: _ } => NO_LINK,
+        Step::Lose { slot: _ } => NO_LINK,
+    }
+}
+
 // Every test of a step, and every change of the words, unless something has refused the step before.
 pub(crate) fn decide(
     words: &mut [u64],
@@ -66,12 +84,12 @@ pub(crate) fn decide(
     free: usize,
     held: Parcel,
     slots: usize,
-    ledger: Ledger,
+    books: Seen,
     step: Step,
     refused: u32,
 ) -> Verdict
     requires { ⌜ (refused ≡ 0 → Ready run (now words)) ⌝ }
-    ensures { λ r. ⌜ (r ≡ verdictUnder refused run (now (words .entry)) (lookedAt free held slots ledger) step) × (now (words .exit) ≡ wordsUnder refused run (now (words .entry)) (lookedAt free held slots ledger) step) ⌝ }
+    ensures { λ r. ⌜ (r ≡ verdictUnder refused run (now (words .entry)) (lookedAt free held slots books) step) × (now (words .exit) ≡ wordsUnder refused run (now (words .entry)) (lookedAt free held slots books) step) ⌝ }
 {
     let scan = Scan {
         sound: true,
@@ -82,7 +100,7 @@ pub(crate) fn decide(
         scan: scan,
         named: held,
         count: slots,
-        ledger: ledger,
+        books: books,
     };
     if refused != 0 {
         return refuse(refused, seen);

@@ -1,20 +1,24 @@
-// Delivering an update: it is merged at its site, and its slot is freed.
+// Delivering an update: it is merged at its site, its slot is freed, and its serial is heard.
 use crate::places::part_of;
 use crate::posts::is_there;
 use crate::verdict::Verdict;
 use crate::verdict::no_parcel;
 use crate::verdict::refuse;
+use ledger::heard_pair;
+use ledger::incomparable;
+use ledger::link_between;
 use rules::Answer;
 use rules::M;
+use rules::Pair;
 use rules::Run;
 use rules::Sight;
 ghost use mathlib.Core.Path.{_≡_};
 ghost use Rattle.rules.specs.declared.Step.the-variants.{Deliver};
 ghost use Rattle.sites.specs.Verdicts.{Ready, delivered, stepVerdict, stepWords};
 
-// What the table answered, with the slot freed and the update counted. It counts even if the length did not rise.
-fn settle(answer: Answer, seen: Sight, slot: u64) -> Verdict
-    ensures { λ r. ⌜ r ≡ delivered answer slot (seen .count) ⌝ }
+// What the table answered, with the slot freed, the update counted and its serial heard. It counts even if the length did not rise.
+fn settle(answer: Answer, seen: Sight, slot: u64, link: usize, pair: Pair) -> Verdict
+    ensures { λ r. ⌜ r ≡ delivered answer slot (seen .count) link pair ⌝ }
 {
     if answer.refusal == 0 {
         let none = no_parcel();
@@ -24,6 +28,8 @@ fn settle(answer: Answer, seen: Sight, slot: u64) -> Verdict
             counter: 3,
             at: slot as usize,
             parcel: none,
+            link: link,
+            pair: pair,
         };
     }
     refuse(answer.refusal, seen)
@@ -37,18 +43,24 @@ pub(crate) fn on_deliver(words: &mut [u64], run: Run, seen: Sight, slot: u64) ->
 {
     if is_there(run, seen, slot) {
         let named = seen.named;
+        let books = seen.books;
+        if incomparable(named.serial, books.pair) {
+            return refuse(15, seen);
+        }
         let part = part_of(run, named.site);
         let from = part.from;
         let to = part.to;
-        let ledger = seen.ledger;
-        if ledger.absorbed == M {
+        let counts = books.counts;
+        if counts.absorbed == M {
             if table::lacks_room(&words[from..to], named.id, named.length) {
                 return refuse(8, seen);
             }
             return refuse(10, seen);
         }
         let answer = table::absorb(&mut words[from..to], named.id, named.length);
-        return settle(answer, seen, slot);
+        let link = link_between(run.sites, named.sender as u64, named.site);
+        let heard = heard_pair(named.serial, books.pair);
+        return settle(answer, seen, slot, link, heard);
     }
     refuse(5, seen)
 }

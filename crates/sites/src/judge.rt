@@ -1,8 +1,8 @@
 // What 1 and 2 judge: the sizes, then all three lent things.
 use crate::verdict::no_parcel;
-use rules::Ledger;
 use rules::Run;
 use rules::Scan;
+use rules::Seen;
 use rules::Sight;
 ghost use mathlib.Core.Path.{_≡_};
 ghost use Prim.Native.Nat.{_*_, _≤_};
@@ -54,9 +54,12 @@ fn all_sound(words: &[u64], run: Run, seen: Sight) -> bool
     ensures { λ r. ⌜ r ≡ allSound run (now (words .entry)) seen ⌝ }
 {
     let scan = seen.scan;
+    let books = seen.books;
     if tables_sound(words, run.sites as usize, 2 * run.capacity as usize) {
         if scan.sound {
-            return ledger::sound(seen.ledger, scan.waiting);
+            if ledger::sound(books.counts, scan.waiting) {
+                return books.sound;
+            }
         }
     }
     false
@@ -76,15 +79,15 @@ fn judge(words: &[u64], run: Run, seen: Sight) -> u32
 }
 
 // The same from the parts that a function has which is lent all three.
-pub fn judge_seen(words: &[u64], run: Run, scan: Scan, slots: usize, ledger: Ledger) -> u32
-    ensures { λ r. ⌜ r ≡ judgement run (now (words .entry)) (seenAs scan noParcel slots ledger) ⌝ }
+pub fn judge_seen(words: &[u64], run: Run, scan: Scan, slots: usize, books: Seen) -> u32
+    ensures { λ r. ⌜ r ≡ judgement run (now (words .entry)) (seenAs scan noParcel slots books) ⌝ }
 {
     let none = no_parcel();
     let seen = Sight {
         scan: scan,
         named: none,
         count: slots,
-        ledger: ledger,
+        books: books,
     };
     judge(words, run, seen)
 }

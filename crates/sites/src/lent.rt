@@ -3,28 +3,39 @@
 use crate::begin::clear_words;
 use crate::begin::slots_to_clear;
 use crate::decide::decide;
+use crate::decide::link_of;
 use crate::decide::needs_slot;
 use crate::decide::slot_of;
 use crate::judge::judge_seen;
-use ledger::empty;
-use ledger::raise;
+use crate::lags::lag_seen;
+use crate::verdict::NO_LINK;
+use ledger::book;
+use ledger::link_between;
+use ledger::see;
+use ledger::start;
 use parcels::clear_slots;
 use parcels::lowest_free;
 use parcels::read_slot;
 use parcels::scan_slots;
 use parcels::store_slot;
 use rules::Answer;
+use rules::Lag;
 use rules::Ledger;
 use rules::Parcel;
 use rules::Run;
 use rules::Step;
+ghost use mathlib.Core.Path.{_≡_};
 ghost use Rattle.rules.specs.meaning.States.{lent};
 ghost use Rattle.rules.specs.meaning.Runs.{Stepped, Freshened};
 ghost use Rattle.rules.specs.meaning.Acts.{Clear, Acted};
+ghost use Rattle.rules.specs.meaning.Lags.{lagAnswer};
+
+// The inner step judges no link: of no sites none is looked at.
+const NO_SITES: u64 = 0;
 
 // One step in a state that is sound, or one that something has refused before. It judges nothing, and sees no more of the slots than the step needs:
-// the one that it names and, for a new parcel, those from `low` on up to the lowest free one. On a refusal the verdict names no counter and a slot that
-// is not there, so that all three stay as they were.
+// the one that it names and, for a new parcel, those from `low` on up to the lowest free one; and of the ledger the counts and the entry of its link. On a
+// refusal the verdict names no counter, and a slot and a link that are not there, so that all three stay as they were.
 pub fn act(
     words: &mut [u64],
     slots: &mut [Parcel],
@@ -42,9 +53,10 @@ pub fn act(
     let held = read_slot(slots, at);
     let wanted = needs_slot(step);
     let free = lowest_free(slots, wanted, low);
-    let counts = *ledger;
-    let v = decide(words, run, free, held, n, counts, step, refused);
-    raise(ledger, v.counter);
+    let link = link_of(step, held, run.sites);
+    let books = see(ledger, NO_SITES, link);
+    let v = decide(words, run, free, held, n, books, step, refused);
+    book(ledger, v.counter, v.link, v.pair);
     store_slot(slots, v.at, v.parcel);
     Answer {
         refusal: v.refusal,
@@ -65,19 +77,37 @@ pub fn step(
     let n = slots.len();
     let sites = run.sites;
     let scan = scan_slots(slots, sites);
-    let counts = *ledger;
-    let judged = judge_seen(words, run, scan, n, counts);
+    let books = see(ledger, sites, NO_LINK);
+    let judged = judge_seen(words, run, scan, n, books);
     act(words, slots, ledger, run, step, judged, scan.free)
 }
 
-// A fresh run: no id at any site, no parcel, no count.
-pub fn fresh(words: &mut [u64], slots: &mut [Parcel], ledger: &mut Ledger, run: Run) -> u32
-    ensures { λ r. ⌜ Freshened run (lent (now (words .entry)) (now (slots .entry)) (now (ledger .entry))) r (lent (now (words .exit)) (now (slots .exit)) (now (ledger .exit))) ⌝ }
+// A fresh run: no id at any site, no parcel, no count, and each link at the first serial.
+pub fn fresh(
+    words: &mut [u64],
+    slots: &mut [Parcel],
+    ledger: &mut Ledger,
+    run: Run,
+    first: u32,
+) -> u32
+    ensures { λ r. ⌜ Freshened run first (lent (now (words .entry)) (now (slots .entry)) (now (ledger .entry))) r (lent (now (words .exit)) (now (slots .exit)) (now (ledger .exit))) ⌝ }
 {
     let n = slots.len();
     let refusal = clear_words(words, run, n);
     let count = slots_to_clear(refusal, n);
     clear_slots(slots, count);
-    empty(ledger, refusal == 0);
+    start(ledger, refusal == 0, run.sites, first);
     refusal
+}
+
+// How far the newest serial heard on a link is from the last one sent there. What is lent is only read.
+pub fn lag(words: &[u64], slots: &[Parcel], ledger: &Ledger, run: Run, from: u64, to: u64) -> Lag
+    ensures { λ r. ⌜ r ≡ lagAnswer run (lent (now (words .entry)) (now (slots .entry)) (now (ledger .entry))) from to ⌝ }
+{
+    let n = slots.len();
+    let sites = run.sites;
+    let scan = scan_slots(slots, sites);
+    let link = link_between(sites, from, to);
+    let books = see(ledger, sites, link);
+    lag_seen(words, run, scan, n, books, from, to)
 }

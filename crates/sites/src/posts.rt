@@ -1,11 +1,16 @@
 // The steps on parcels: send, again, lose and deliver.
 use crate::places::part_of;
+use crate::verdict::NO_LINK;
 use crate::verdict::Verdict;
+use crate::verdict::no_pair;
 use crate::verdict::no_parcel;
 use crate::verdict::refuse;
+use ledger::link_between;
+use ledger::sent_pair;
 use parcels::is_occupied;
 use rules::Found;
 use rules::M;
+use rules::Pair;
 use rules::Parcel;
 use rules::Run;
 use rules::Sight;
@@ -17,9 +22,10 @@ ghost use Rattle.rules.specs.declared.Step.the-variants.{Send, Again, Lose, Del
 ghost use Rattle.rules.specs.meaning.Steps.{nothingThere};
 ghost use Rattle.sites.specs.Verdicts.{Ready, posted, stepVerdict, stepWords};
 
-// A new parcel takes the free slot with the lowest number, unless there is none or its counter is at the largest.
-fn post(seen: Sight, parcel: Parcel, counter: u64, counted: u64) -> Verdict
-    ensures { λ r. ⌜ r ≡ posted seen parcel counter counted ⌝ }
+// A new parcel takes the free slot with the lowest number, unless there is none or its counter is at the largest. The entry of its link is set with it, so
+// that a refused send uses no serial.
+fn post(seen: Sight, parcel: Parcel, counter: u64, counted: u64, link: usize, pair: Pair) -> Verdict
+    ensures { λ r. ⌜ r ≡ posted seen parcel counter counted link pair ⌝ }
 {
     let scan = seen.scan;
     let free = scan.free;
@@ -35,10 +41,12 @@ fn post(seen: Sight, parcel: Parcel, counter: u64, counted: u64) -> Verdict
         counter: counter,
         at: free,
         parcel: parcel,
+        link: link,
+        pair: pair,
     }
 }
 
-// The sender's length for the id goes to another site.
+// The sender's length for the id goes to another site, with the next serial of the link.
 pub(crate) fn on_send(words: &[u64], run: Run, seen: Sight, from: u64, to: u64, id: u64) -> Verdict
     requires { ⌜ Ready run (now words) ⌝ }
     ensures { λ r. ⌜ r ≡ stepVerdict run (now (words .entry)) seen (Send from to id) ⌝ }
@@ -59,13 +67,19 @@ pub(crate) fn on_send(words: &[u64], run: Run, seen: Sight, from: u64, to: u64, 
     let Found::At(i) = table::lookup(own, id) else {
         return refuse(6, seen);
     };
+    let books = seen.books;
+    let pair = books.pair;
     let parcel = Parcel {
         site: to,
         id: id,
         length: own[2 * i + 1],
+        sender: from as u32,
+        serial: pair.next,
     };
-    let ledger = seen.ledger;
-    post(seen, parcel, 1, ledger.sent)
+    let counts = books.counts;
+    let link = link_between(run.sites, from, to);
+    let after = sent_pair(pair);
+    post(seen, parcel, 1, counts.sent, link, after)
 }
 
 // Whether the named slot is there and occupied.
@@ -78,14 +92,16 @@ pub(crate) fn is_there(run: Run, seen: Sight, slot: u64) -> bool
     false
 }
 
-// A second parcel like the one in the slot.
+// A second parcel like the one in the slot, with its sender and its serial.
 pub(crate) fn on_again(run: Run, seen: Sight, slot: u64) -> Verdict
     ensures { λ r. ⌜ ((ws : List ℕ) → r ≡ stepVerdict run ws seen (Again slot)) ⌝ }
 {
     if is_there(run, seen, slot) {
         let named = seen.named;
-        let ledger = seen.ledger;
-        return post(seen, named, 2, ledger.copied);
+        let books = seen.books;
+        let counts = books.counts;
+        let none = no_pair();
+        return post(seen, named, 2, counts.copied, NO_LINK, none);
     }
     refuse(5, seen)
 }
@@ -95,17 +111,21 @@ pub(crate) fn on_lose(run: Run, seen: Sight, slot: u64) -> Verdict
     ensures { λ r. ⌜ ((ws : List ℕ) → r ≡ stepVerdict run ws seen (Lose slot)) ⌝ }
 {
     if is_there(run, seen, slot) {
-        let ledger = seen.ledger;
-        if ledger.lost == M {
+        let books = seen.books;
+        let counts = books.counts;
+        if counts.lost == M {
             return refuse(10, seen);
         }
         let none = no_parcel();
+        let pair = no_pair();
         return Verdict {
             refusal: 0,
             value: 0,
             counter: 4,
             at: slot as usize,
             parcel: none,
+            link: NO_LINK,
+            pair: pair,
         };
     }
     refuse(5, seen)
