@@ -5,6 +5,7 @@ pub mod Posting
 pub mod Delivering
 pub mod Merging
 pub mod Deciding
+pub mod Lagging
 pub mod Lending
 pub mod Outcomes
 pub mod Beginning

@@ -17,6 +17,7 @@ use Rattle.rules.specs.meaning.Lengths.{M}
 use Rattle.rules.specs.meaning.Table.{SoundTable}
 use Rattle.rules.specs.meaning.Operations.{answer, unlessRefused}
 use Rattle.rules.specs.meaning.Parcels.{noParcel}
+use Rattle.rules.specs.meaning.Links.{noLink, noPair}
 use Rattle.rules.specs.meaning.Ledgers.{noCounter}
 use Rattle.rules.specs.meaning.States.{width, tableAt, withTable, tablesSound}
 use Rattle.rules.specs.meaning.Steps.{noPost, effect}
@@ -77,7 +78,7 @@ module _ (run : Run) (ws : List ℕ) (si : Sight) (step : Step) (k r v : ℕ) (u
 
 -- a step that is refused by its own tests
 module _ (run : Run) (ws : List ℕ) (si : Sight) (step : Step) (r : ℕ) (refusal : stepRefusal run ws si step ≡ suc r) where
-  pub refused-verdict : record { refusal = suc r; value = 0; counter = noCounter; at = si .count; parcel = noParcel } ≡ stepVerdict run ws si step
+  pub refused-verdict : record { refusal = suc r; value = 0; counter = noCounter; at = si .count; parcel = noParcel; link = noLink; pair = noPair } ≡ stepVerdict run ws si step
   refused-verdict = rw refusal
 
   pub refused-words : ws ≡ stepWords run ws si step

@@ -20,7 +20,7 @@ abbrev W : tie.Else1 → List ℕ
 W c = now (start c .args .words)
 
 abbrev S : tie.Else1 → Sight
-S c = lookedAt (start c .args .free) (start c .args .held) (start c .args .slots) (start c .args .ledger)
+S c = lookedAt (start c .args .free) (start c .args .held) (start c .args .slots) (start c .args .books)
 
 through : (c : tie.Else1) → start c .args .refused ≡ 0
 through c = c .if1 .left
@@ -34,7 +34,7 @@ refuse-requires c κs = search needs
 returns : tie.Need-returns
 returns c =
     let a = c .before .before .before .args in
-    let out = under-out (a .run) (now (a .words)) (lookedAt (a .free) (a .held) (a .slots) (a .ledger)) (a .step) (a .refused) (c .before .if1 .taken) in
+    let out = under-out (a .run) (now (a .words)) (lookedAt (a .free) (a .held) (a .slots) (a .books)) (a .step) (a .refused) (c .before .if1 .taken) in
     (c .refuse .ensures ∙ out .0, out .1)
 
 enum-known-step : tie.Need-enum-known-step

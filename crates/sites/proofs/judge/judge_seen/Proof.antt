@@ -17,7 +17,7 @@ judge-requires c κs = search needs
 returns : tie.Need-returns
 returns c =
     let a = c .before .before .before .args in
-    c .judge .ensures ∙ ap (λ (p : Parcel). judgement (a .run) (now (a .words)) (seenAs (a .scan) p (a .slots) (a .ledger))) (c .before .no-parcel .ensures)
+    c .judge .ensures ∙ ap (λ (p : Parcel). judgement (a .run) (now (a .words)) (seenAs (a .scan) p (a .slots) (a .books))) (c .before .no-parcel .ensures)
 
 pub judge-seen-spec : {M : Type 1} → statement M
 judge-seen-spec = tie.close (tie.spec no-parcel-requires judge-requires returns)

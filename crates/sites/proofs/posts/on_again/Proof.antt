@@ -12,13 +12,17 @@ use Rattle.sites.proofs.posts.on_again.Tie as tie
 is-there-requires : tie.Need-is-there-requires
 is-there-requires c κs = search needs
 
+no-pair-requires : tie.Need-no-pair-requires
+no-pair-requires c κs = search needs
+
 post-requires : tie.Need-post-requires
 post-requires c κs = search needs
 
 returns : tie.Need-returns
 returns c =
-    let t = c .before .before .before in
-    λ ws. c .post .ensures ∙ again-step _ ws _ _ (not-true _ (sym (t .before .is-there .ensures) ∙ t .if1 .taken))
+    let n = c .before in
+    let t = n .before .before .before .before in
+    λ ws. c .post .ensures ∙ again-step _ ws _ _ _ (n .no-pair .ensures) (not-true _ (sym (t .before .is-there .ensures) ∙ t .if1 .taken))
 
 refuse-requires : tie.Need-refuse-requires
 refuse-requires c κs = search needs
@@ -30,4 +34,4 @@ returns-2 c =
 
 pub on-again-spec : {M : Type 1} → statement M
 on-again-spec =
-    tie.close (tie.spec is-there-requires post-requires returns refuse-requires returns-2)
+    tie.close (tie.spec is-there-requires no-pair-requires post-requires returns refuse-requires returns-2)

@@ -17,16 +17,20 @@ refuse-requires c κs = search needs
 
 returns : tie.Need-returns
 returns c =
-    let t = c .before .before .before .before in
+    let t = c .before .before .before .before .before in
     λ ws. c .refuse .ensures ∙ refused-verdict _ ws _ _ 9 (lose-full _ ws _ _ (not-true _ (sym (t .before .is-there .ensures) ∙ t .if1 .taken)) (c .before .if2 .taken))
 
 no-parcel-requires : tie.Need-no-parcel-requires
 no-parcel-requires c κs = search needs
 
+no-pair-requires : tie.Need-no-pair-requires
+no-pair-requires c κs = search needs
+
 returns-2 : tie.Need-returns-2
 returns-2 c =
-    let t = c .before .before .before .before in
-    λ ws. rw (c .no-parcel .ensures) (lose-step _ ws _ _ (not-true _ (sym (t .before .is-there .ensures) ∙ t .if1 .taken)) (c .before .if2 .left))
+    let e = c .before .before in
+    let t = e .before .before .before .before in
+    λ ws. rw (c .before .no-parcel .ensures, c .no-pair .ensures) (lose-step _ ws _ _ (not-true _ (sym (t .before .is-there .ensures) ∙ t .if1 .taken)) (e .if2 .left))
 
 refuse-requires-2 : tie.Need-refuse-requires-2
 refuse-requires-2 c κs = search needs
@@ -44,6 +48,7 @@ on-lose-spec =
     refuse-requires
     returns
     no-parcel-requires
+    no-pair-requires
     returns-2
     refuse-requires-2
     returns-3)
