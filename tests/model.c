@@ -88,6 +88,8 @@ static bool sound_slot(const wg_parcel *p, uint64_t sites) {
     return free_slot(p) || (p->length >= 1 && p->length <= M && p->site < sites);
 }
 
+static void make_free(wg_parcel *p) { p->site = p->id = p->length = 0; }
+
 static uint64_t waiting(const wg_parcel *slots, size_t n) {
     uint64_t count = 0;
     size_t k;
@@ -109,20 +111,132 @@ static size_t lowest_free(const wg_parcel *slots, size_t n) {
 
 /* ---- a run ---- */
 
-static bool sizes(size_t n_words, size_t n_slots, uint64_t sites, uint64_t capacity) {
-    if (sites < 1 || sites > 16) return false;
-    if (capacity > 2048) return false;
-    if (n_slots > 1024) return false;
-    return n_words == sites * 2 * capacity;
+static bool sizes(const wg_run *run) {
+    if (run->sites < 1 || run->sites > 16) return false;
+    if (run->capacity > 2048) return false;
+    if (run->n_slots > 1024) return false;
+    return run->n_words == run->sites * 2 * run->capacity;
 }
 
 uint32_t model_fresh(uint64_t *words, size_t n_words, wg_parcel *slots, size_t n_slots, wg_ledger *ledger,
                      uint64_t sites, uint64_t capacity) {
+    const wg_run run = {words, n_words, slots, n_slots, ledger, sites, capacity};
     size_t k;
-    if (!sizes(n_words, n_slots, sites, capacity)) return 1;
+    if (!sizes(&run)) return 1;
     for (k = 0; k < n_words; k++) words[k] = 0;
-    for (k = 0; k < n_slots; k++) slots[k].site = slots[k].id = slots[k].length = 0;
+    for (k = 0; k < n_slots; k++) make_free(&slots[k]);
     ledger->sent = ledger->copied = ledger->absorbed = ledger->lost = 0;
+    return 0;
+}
+
+static struct set tables[16]; /* those of the run that was judged last */
+static struct set joined;
+
+static uint64_t *words_of(const wg_run *run, uint64_t site) { return run->words + site * 2 * run->capacity; }
+
+static bool unpack_all(const wg_run *run) {
+    uint64_t k;
+    for (k = 0; k < run->sites; k++)
+        if (!unpack(words_of(run, k), run->capacity, &tables[k])) return false;
+    return true;
+}
+
+static bool sound_slots(const wg_run *run) {
+    size_t k;
+    for (k = 0; k < run->n_slots; k++)
+        if (!sound_slot(&run->slots[k], run->sites)) return false;
+    return true;
+}
+
+static bool sound(const wg_run *run) {
+    return unpack_all(run) && sound_slots(run) && sound_ledger(run->ledger, waiting(run->slots, run->n_slots));
+}
+
+/* ---- the eight steps, in a run whose tables are unpacked; sites and slots that they name are there ---- */
+
+static uint32_t add(const wg_run *run, uint64_t site, uint64_t id, uint64_t *value) {
+    uint64_t now = length_of(&tables[site], id);
+    if (!odd(now)) {
+        if (now == 0 && tables[site].count == run->capacity) return 8;
+        now = now + 1;
+        put(&tables[site], id, now);
+        pack(&tables[site], words_of(run, site), run->capacity);
+    }
+    *value = now;
+    return 0;
+}
+
+static uint32_t take_away(const wg_run *run, uint64_t site, uint64_t id, uint64_t *value) {
+    uint64_t now = length_of(&tables[site], id);
+    if (now == M) return 7;
+    if (odd(now)) {
+        put(&tables[site], id, ++now);
+        pack(&tables[site], words_of(run, site), run->capacity);
+    }
+    *value = now;
+    return 0;
+}
+
+static uint32_t send(const wg_run *run, uint64_t from, uint64_t to, uint64_t id, uint64_t *value) {
+    uint64_t now = length_of(&tables[from], id);
+    size_t place = lowest_free(run->slots, run->n_slots);
+    if (now == 0) return 6;
+    if (place == run->n_slots) return 9;
+    if (run->ledger->sent == M) return 10;
+    run->slots[place].site = to;
+    run->slots[place].id = id;
+    run->slots[place].length = now;
+    run->ledger->sent++;
+    *value = place;
+    return 0;
+}
+
+static uint32_t merge(const wg_run *run, uint64_t from, uint64_t to, uint64_t *value) {
+    uint64_t k, rose = 0;
+    joined = tables[to];
+    for (k = 0; k < tables[from].count; k++) {
+        uint64_t id = tables[from].id[k], theirs = tables[from].length[k];
+        if (theirs > length_of(&tables[to], id)) {
+            put(&joined, id, theirs);
+            rose++;
+        }
+    }
+    if (joined.count > run->capacity) return 8;
+    pack(&joined, words_of(run, to), run->capacity);
+    *value = rose;
+    return 0;
+}
+
+static uint32_t deliver(const wg_run *run, wg_parcel *slot, uint64_t *value) {
+    struct set *table = &tables[slot->site];
+    uint64_t now = length_of(table, slot->id);
+    if (now == 0 && table->count == run->capacity) return 8;
+    if (run->ledger->absorbed == M) return 10;
+    if (slot->length > now) {
+        now = slot->length;
+        put(table, slot->id, now);
+        pack(table, words_of(run, slot->site), run->capacity);
+    }
+    make_free(slot);
+    run->ledger->absorbed++;
+    *value = now;
+    return 0;
+}
+
+static uint32_t again(const wg_run *run, const wg_parcel *slot, uint64_t *value) {
+    size_t second = lowest_free(run->slots, run->n_slots);
+    if (second == run->n_slots) return 9;
+    if (run->ledger->copied == M) return 10;
+    run->slots[second] = *slot;
+    run->ledger->copied++;
+    *value = second;
+    return 0;
+}
+
+static uint32_t lose(const wg_run *run, wg_parcel *slot) {
+    if (run->ledger->lost == M) return 10;
+    make_free(slot);
+    run->ledger->lost++;
     return 0;
 }
 
@@ -137,119 +251,27 @@ static bool is_step(uint64_t kind, uint64_t second, uint64_t id) {
     }
 }
 
-static struct set tables[16];
-static struct set joined;
-
-static bool unpack_all(const uint64_t *words, uint64_t sites, uint64_t capacity) {
-    uint64_t k;
-    for (k = 0; k < sites; k++)
-        if (!unpack(words + k * 2 * capacity, capacity, &tables[k])) return false;
-    return true;
-}
-
-static bool sound_parcels(const wg_parcel *slots, size_t n_slots, const wg_ledger *ledger, uint64_t sites) {
-    size_t k;
-    for (k = 0; k < n_slots; k++)
-        if (!sound_slot(&slots[k], sites)) return false;
-    return sound_ledger(ledger, waiting(slots, n_slots));
-}
-
 uint32_t model_step(uint64_t *words, size_t n_words, wg_parcel *slots, size_t n_slots, wg_ledger *ledger,
                     uint64_t sites, uint64_t capacity,
                     uint64_t kind, uint64_t first, uint64_t second, uint64_t id, uint64_t *value) {
-    uint64_t k, now, site, rose = 0;
-    size_t place, slot;
-    wg_parcel parcel;
-
+    const wg_run run = {words, n_words, slots, n_slots, ledger, sites, capacity};
     *value = 0;
     if (!is_step(kind, second, id)) return 11;
-    if (!sizes(n_words, n_slots, sites, capacity)) return 1;
-    if (!unpack_all(words, sites, capacity)) return 2;
-    if (!sound_parcels(slots, n_slots, ledger, sites)) return 2;
-
+    if (!sizes(&run)) return 1;
+    if (!sound(&run)) return 2;
     if (kind <= 5 && first >= sites) return 3;
     if ((kind == 4 || kind == 5) && second >= sites) return 3;
     if ((kind == 4 || kind == 5) && first == second) return 4;
     if (kind >= 6 && (first >= n_slots || free_slot(&slots[first]))) return 5;
-
-    place = lowest_free(slots, n_slots);
-    slot = (size_t)first;
     switch (kind) {
-    case 1:
-        now = length_of(&tables[first], id);
-        if (odd(now)) {
-            *value = now;
-            return 0;
-        }
-        if (now == 0 && tables[first].count == capacity) return 8;
-        put(&tables[first], id, now + 1);
-        pack(&tables[first], words + first * 2 * capacity, capacity);
-        *value = now + 1;
-        return 0;
-    case 2:
-        now = length_of(&tables[first], id);
-        if (now == M) return 7;
-        if (odd(now)) {
-            now = now + 1;
-            put(&tables[first], id, now);
-            pack(&tables[first], words + first * 2 * capacity, capacity);
-        }
-        *value = now;
-        return 0;
-    case 3:
-        *value = length_of(&tables[first], id);
-        return 0;
-    case 4:
-        now = length_of(&tables[first], id);
-        if (now == 0) return 6;
-        if (place == n_slots) return 9;
-        if (ledger->sent == M) return 10;
-        slots[place].site = second;
-        slots[place].id = id;
-        slots[place].length = now;
-        ledger->sent++;
-        *value = place;
-        return 0;
-    case 5:
-        joined = tables[second];
-        for (k = 0; k < tables[first].count; k++) {
-            uint64_t theirs = tables[first].length[k];
-            if (theirs > length_of(&tables[second], tables[first].id[k])) {
-                put(&joined, tables[first].id[k], theirs);
-                rose++;
-            }
-        }
-        if (joined.count > capacity) return 8;
-        pack(&joined, words + second * 2 * capacity, capacity);
-        *value = rose;
-        return 0;
-    case 6:
-        parcel = slots[slot];
-        site = parcel.site;
-        now = length_of(&tables[site], parcel.id);
-        if (now == 0 && tables[site].count == capacity) return 8;
-        if (ledger->absorbed == M) return 10;
-        if (parcel.length > now) {
-            now = parcel.length;
-            put(&tables[site], parcel.id, now);
-            pack(&tables[site], words + site * 2 * capacity, capacity);
-        }
-        slots[slot].site = slots[slot].id = slots[slot].length = 0;
-        ledger->absorbed++;
-        *value = now;
-        return 0;
-    case 7:
-        if (place == n_slots) return 9;
-        if (ledger->copied == M) return 10;
-        slots[place] = slots[slot];
-        ledger->copied++;
-        *value = place;
-        return 0;
-    default:
-        if (ledger->lost == M) return 10;
-        slots[slot].site = slots[slot].id = slots[slot].length = 0;
-        ledger->lost++;
-        return 0;
+    case 1: return add(&run, first, id, value);
+    case 2: return take_away(&run, first, id, value);
+    case 3: *value = length_of(&tables[first], id); return 0;
+    case 4: return send(&run, first, second, id, value);
+    case 5: return merge(&run, first, second, value);
+    case 6: return deliver(&run, &slots[first], value);
+    case 7: return again(&run, &slots[first], value);
+    default: return lose(&run, &slots[first]);
     }
 }
 
@@ -259,9 +281,10 @@ uint32_t model_step(uint64_t *words, size_t n_words, wg_parcel *slots, size_t n_
 uint32_t model_burst(uint64_t *words, size_t n_words, wg_parcel *slots, size_t n_slots, wg_ledger *ledger,
                      uint64_t sites, uint64_t capacity,
                      const uint64_t *asks, size_t n_asks, uint64_t *answers, size_t n_answers) {
+    const wg_run run = {words, n_words, slots, n_slots, ledger, sites, capacity};
     size_t k, steps = n_asks / 4;
-    if (!sizes(n_words, n_slots, sites, capacity)) return 1;
-    if (!unpack_all(words, sites, capacity) || !sound_parcels(slots, n_slots, ledger, sites)) return 2;
+    if (!sizes(&run)) return 1;
+    if (!sound(&run)) return 2; /* once, and also for no step */
     if (n_asks % 4 != 0) return 11;
     if (n_answers < 2 * steps) return 13;
     for (k = 0; k < steps; k++) {
