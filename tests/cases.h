@@ -1,0 +1,45 @@
+/* cases.h: the kinds of case. Each makes its inputs from its own random numbers and compares every call that it makes. */
+#ifndef CASES_H
+#define CASES_H
+
+#include "states.h"
+
+enum { LONGEST_BURST = 1000 };
+
+/* case_runs.c: fresh runs, sound states, damaged states, sizes outside the limits */
+void case_run(rng *r, int large);
+void case_state(rng *r, int large);
+void case_damage(rng *r, int large);
+void case_sizes(rng *r);
+
+/* case_bursts.c */
+void case_burst(rng *r, int large);
+
+/* case_texts.c: bulk membership, lines, reports */
+void case_members(rng *r, int large);
+void case_read(rng *r);
+void case_write(rng *r);
+void case_report(rng *r, int large);
+
+/* What the kinds of case share, in case_runs.c. */
+typedef struct {
+    uint64_t kind, first, second, id;
+} numbers;
+
+numbers some_numbers(rng *r, const shape *s, const pool *p);
+
+/* An id that the sender has, where there is one, and a slot that is occupied, so that steps get past their first tests. */
+numbers telling_numbers(rng *r, const shape *s, const pool *p);
+
+extern pool ids_of_case;
+
+/* A sound state, in the library's copy alone so far. */
+void place_sound(rng *r, const shape *s);
+
+/* Gives it to the model too. */
+void share_state(void);
+
+/* A state with sizes outside the limits, for both. */
+shape place_bad_sizes(rng *r);
+
+#endif

@@ -1,0 +1,130 @@
+#include "met.h"
+
+#include <inttypes.h>
+#include <stdio.h>
+
+#include "cases.h"
+#include "compare.h"
+
+static const struct {
+    const char *name;
+    unsigned can; /* bit k: refusal k */
+} calls[ROWS] = {
+    {"fresh", 1 << 0 | 1 << 1},
+    {"add", 1 << 0 | 1 << 1 | 1 << 2 | 1 << 3 | 1 << 8 | 1 << 11},
+    {"remove", 1 << 0 | 1 << 1 | 1 << 2 | 1 << 3 | 1 << 7 | 1 << 11},
+    {"query", 1 << 0 | 1 << 1 | 1 << 2 | 1 << 3 | 1 << 11},
+    {"send", 1 << 0 | 1 << 1 | 1 << 2 | 1 << 3 | 1 << 4 | 1 << 6 | 1 << 9 | 1 << 10},
+    {"merge", 1 << 0 | 1 << 1 | 1 << 2 | 1 << 3 | 1 << 4 | 1 << 8 | 1 << 11},
+    {"deliver", 1 << 0 | 1 << 1 | 1 << 2 | 1 << 5 | 1 << 8 | 1 << 10 | 1 << 11},
+    {"again", 1 << 0 | 1 << 1 | 1 << 2 | 1 << 5 | 1 << 9 | 1 << 10 | 1 << 11},
+    {"lose", 1 << 0 | 1 << 1 | 1 << 2 | 1 << 5 | 1 << 10 | 1 << 11},
+    {"no kind", 1 << 11},
+    {"burst", 1 << 0 | 1 << 1 | 1 << 2 | 1 << 11 | 1 << 13},
+    {"members", 1 << 0 | 1 << 1 | 1 << 2 | 1 << 13 | 1 << 14},
+    {"read_line", 1 << 0 | 1 << 11 | 1 << 13},
+    {"check_line", 1 << 0 | 1 << 11 | 1 << 13},
+    {"write_line", 1 << 0 | 1 << 11 | 1 << 13},
+    {"report", 1 << 0 | 1 << 12 | 1 << 13},
+    {"burst step", 1 << 0 | 1 << 3 | 1 << 4 | 1 << 5 | 1 << 6 | 1 << 7 | 1 << 8 | 1 << 9 | 1 << 10 | 1 << 11},
+};
+
+static uint64_t met[ROWS][15], damaged[DAMAGES];
+
+static int all_largest(const shape *s) { return s->sites == 16 && s->capacity == 2048 && s->n_slots == 1024; }
+
+/* steps at each end of the sizes */
+static uint64_t at_size[8];
+static const char *const size_names[8] = {"1 site", "16 sites", "C = 0", "C = 1", "C = 2,048", "no slots", "1,024 slots", "all largest"};
+
+void meet_size(const shape *s) {
+    at_size[0] += s->sites == 1;
+    at_size[1] += s->sites == 16;
+    at_size[2] += s->capacity == 0;
+    at_size[3] += s->capacity == 1;
+    at_size[4] += s->capacity == 2048;
+    at_size[5] += s->n_slots == 0;
+    at_size[6] += s->n_slots == 1024;
+    at_size[7] += all_largest(s);
+}
+
+/* accepted bursts at each end of their length, and in the largest state */
+static uint64_t bursts[4];
+static const char *const burst_names[4] = {"no step", "1 step", "1,000 steps", "all largest"};
+
+void meet_burst(const shape *s, size_t steps) {
+    bursts[0] += steps == 0;
+    bursts[1] += steps == 1;
+    bursts[2] += steps == LONGEST_BURST;
+    bursts[3] += all_largest(s);
+}
+
+int call_of(uint64_t kind) { return kind >= 1 && kind <= 8 ? (int)kind : NO_KIND; }
+
+void meet(int call, uint32_t refusal) {
+    if (refusal > 14 || !(calls[call].can >> refusal & 1)) differ("%s is never refused with %" PRIu32, calls[call].name, refusal);
+    met[call][refusal]++;
+}
+
+void meet_damage(unsigned way) { damaged[way]++; }
+
+/* Each of these prints a part of what was met and returns how much of it was not. */
+
+static int print_row(int call) {
+    int k, missed = 0;
+    printf("%-11s", calls[call].name);
+    for (k = 0; k < 15; k++) {
+        if (!(calls[call].can >> k & 1)) {
+            printf("%9s", "");
+            continue;
+        }
+        printf("%9" PRIu64, met[call][k]);
+        if (met[call][k] == 0) missed++;
+    }
+    printf("\n");
+    return missed;
+}
+
+static int print_refusals(void) {
+    int c, k, missed = 0;
+    uint64_t sum[15] = {0};
+    printf("%-11s", "refusal");
+    for (k = 0; k < 15; k++) printf("%9d", k);
+    printf("\n");
+    for (c = 0; c < CALLS; c++) {
+        missed += print_row(c);
+        for (k = 0; k < 15; k++) sum[k] += met[c][k];
+    }
+    printf("%-11s", "all");
+    for (k = 0; k < 15; k++) printf("%9" PRIu64, sum[k]);
+    printf("\n");
+    for (k = 1; k < 15; k++)
+        if (sum[k] < 1000) missed++;
+    return missed + print_row(IN_BURST);
+}
+
+static int print_damages(void) {
+    int k, missed = 0;
+    for (k = 0; k < DAMAGES; k++) {
+        if (damaged[k] == 0) missed++;
+        printf("damaged states, %s: %" PRIu64 "\n", damage_names[k], damaged[k]);
+    }
+    return missed;
+}
+
+static int print_counts(const char *what, const char *const *names, const uint64_t *counts, int n) {
+    int k, missed = 0;
+    for (k = 0; k < n; k++) {
+        if (counts[k] == 0) missed++;
+        printf("%s, %s: %" PRIu64, k == 0 ? what : "", names[k], counts[k]);
+    }
+    printf("\n");
+    return missed;
+}
+
+int print_met(void) {
+    int missed = print_refusals();
+    missed += print_damages();
+    missed += print_counts("steps at sizes", size_names, at_size, 8);
+    return missed + print_counts("bursts", burst_names, bursts, 4);
+}
