@@ -39,7 +39,7 @@ int main(void) {
     const wg_run run = {words, WG_WORDS(SITES, CAPACITY), slots, SLOTS, &ledger, SITES, CAPACITY};
     size_t k;
 
-    uint32_t refusal = wg_start(&run);
+    uint32_t refusal = wg_start(&run, 1);
     for (k = 0; k < QUEUED; k++) read_ask(queue[k], asks + WG_ASKS(k));
     if (refusal == 0) refusal = wg_do_all(&run, asks, QUEUED, answers);
     if (refusal != 0) return printf("refused: %s\n", wg_refusal_text(refusal)), 1;

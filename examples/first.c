@@ -10,7 +10,7 @@ int main(void) {
     const wg_run run = {words, WG_WORDS(2, 4), slots, 2, &ledger, 2, 4};
     uint64_t length, slot;
 
-    uint32_t refusal = wg_start(&run);
+    uint32_t refusal = wg_start(&run, 1); /* the first parcel from one site to another has the serial 1 */
     if (refusal == 0) refusal = wg_add(&run, 0, 7, &length);
     if (refusal == 0) refusal = wg_send(&run, 0, 1, 7, &slot);
     if (refusal == 0) refusal = wg_deliver(&run, slot, &length);

@@ -1,11 +1,12 @@
 /* wiregantry.h: what a C or C++ program calls.
  *
  * A set of 64-bit episode ids is held at 1 to 16 sites. Each id has a causal length: 0 while it has no entry, odd while it is listed, even
- * once it is withdrawn. Updates under way between the sites (parcels) wait in slots, and a ledger counts them. All of it lies in memory that
- * the caller lends; the library allocates nothing and keeps nothing between two calls.
+ * once it is withdrawn. Updates under way between the sites (parcels) wait in slots, and a ledger counts them and keeps, for each ordered pair
+ * of sites, the serial numbers of what was sent and heard. All of it lies in memory that the caller lends; the library allocates nothing and
+ * keeps nothing between two calls.
  *
  * Every function takes any numbers and any contents, always returns, and answers 0 (accepted) or the number of a refusal. A refused call
- * has written nothing but the 0 in its `value` or `written`. Refusal numbers never change their meaning.
+ * has written nothing but the 0 in its `value`, `lag` or `written`. Refusal numbers never change their meaning.
  *
  * What the caller owes, since no proof reaches the calling side:
  *
@@ -38,6 +39,8 @@ typedef char wg_needs_sizes_of_64_bits[sizeof(size_t) == 8 ? 1 : -1];
 #define WG_CAPACITY_MAX 2048u       /* entries of one table: 0 to this */
 #define WG_SLOTS_MAX 1024u          /* slots for parcels: 0 to this */
 #define WG_LENGTH_MAX 4294967295u   /* the largest causal length, and the largest count of the ledger; odd */
+#define WG_SERIAL_MAX 4294967295u   /* the last serial; the one after it is 0 */
+#define WG_LAG_MAX 2147483647       /* a lag is from -WG_LAG_MAX to this */
 #define WG_MEMBERS_MAX 4096u        /* ids of one call of wg_members */
 #define WG_LINE_MAX 83u             /* bytes of the longest step line, without its line end */
 #define WG_AREA 32u                 /* bytes that wg_read_line fills */
@@ -64,10 +67,12 @@ typedef char wg_needs_sizes_of_64_bits[sizeof(size_t) == 8 ? 1 : -1];
  *   WG_ADD         site           0             id      the length after: an even one rose by 1, an odd one stayed
  *   WG_REMOVE      site           0             id      the length after: an odd one rose by 1, an even one stayed and no entry was made
  *   WG_QUERY       site           0             id      the length
- *   WG_SEND        sending site   target site   id      the slot where a parcel with the sender's length now waits; sent rose by 1
+ *   WG_SEND        sending site   target site   id      the slot where a parcel with the sender's length and the pair's next serial now waits;
+ *                                                       sent rose by 1, the next serial too
  *   WG_MERGE       source site    target site   0       how many ids of the target rose to the source's length
- *   WG_DELIVER     slot           0             0       the length after at the parcel's site; the slot is free, absorbed rose by 1
- *   WG_AGAIN       slot           0             0       the slot of a second parcel like the first; copied rose by 1
+ *   WG_DELIVER     slot           0             0       the length after at the parcel's site; the slot is free, absorbed rose by 1, and a
+ *                                                       newer serial is the newest heard
+ *   WG_AGAIN       slot           0             0       the slot of a second parcel like the first, serial and all; copied rose by 1
  *   WG_LOSE        slot           0             0       0; the slot is free, lost rose by 1
  */
 #define WG_ADD 1u
@@ -85,7 +90,7 @@ typedef char wg_needs_sizes_of_64_bits[sizeof(size_t) == 8 ? 1 : -1];
 #define WG_BAD_SIZES 1u       /* sizes outside the limits, or the run of words is not sites x 2 x capacity long */
 #define WG_UNSOUND 2u         /* a table, a slot or the ledger is not laid out as it must be */
 #define WG_NO_SITE 3u         /* a site number is at or above the number of sites */
-#define WG_SAME_SITE 4u       /* send or merge names one site twice */
+#define WG_SAME_SITE 4u       /* send, merge or a lag query names one site twice */
 #define WG_NO_PARCEL 5u       /* the slot number is at or above the slot count, or the slot is free */
 #define WG_NOTHING_TO_SEND 6u /* send of an id whose length at the sender is 0 */
 #define WG_LENGTHS_OUT 7u     /* remove at the largest length */
@@ -96,6 +101,8 @@ typedef char wg_needs_sizes_of_64_bits[sizeof(size_t) == 8 ? 1 : -1];
 #define WG_INPUT_LONG 12u     /* the report's input is longer than WG_INPUT_MAX */
 #define WG_SHORT_BUFFER 13u   /* a buffer to be written is too short */
 #define WG_MANY_IDS 14u       /* bulk membership asked for more than WG_MEMBERS_MAX ids */
+#define WG_NO_ORDER 15u       /* two serials that cannot be ordered: they are exactly 2147483648 apart */
+#define WG_NOTHING_HEARD 16u  /* nothing was sent, or nothing heard, on that pair of sites */
 
 /* A few words on a refusal for people to read; never NULL. */
 static inline const char *wg_refusal_text(uint32_t refusal) {
@@ -115,20 +122,37 @@ static inline const char *wg_refusal_text(uint32_t refusal) {
     case WG_INPUT_LONG: return "the input is too long";
     case WG_SHORT_BUFFER: return "the buffer is too short";
     case WG_MANY_IDS: return "too many ids asked for";
+    case WG_NO_ORDER: return "two serials that cannot be ordered";
+    case WG_NOTHING_HEARD: return "nothing sent or nothing heard on that pair";
     default: return "not a refusal of this version";
     }
 }
 
 /* ---- What is lent ------------------------------------------------------------------------------------------------------------------- */
 
-/* An update under way. A free slot has all three 0; an occupied one has a site of the run and a length of 1 to WG_LENGTH_MAX. */
+/* An update under way to `site`. A free slot has all five 0. An occupied one has a site of the run, a length of 1 to WG_LENGTH_MAX, and a sender
+ * that is another site of the run; its id and its serial are any. So in a run of one site every slot is free. */
 typedef struct {
     uint64_t site, id, length;
+    uint32_t sender, serial;
 } wg_parcel;
 
-/* Accepted steps send, again, deliver and lose. Sound: each at most WG_LENGTH_MAX, and sent + copied = absorbed + lost + occupied slots. */
+/* What went from one site to another. Serials go up by one with each accepted send, and after 4294967295 comes 0. Their order is that of
+ * RFC 1982 with 32 bits: of two that are less than 2147483648 apart, the one that is reached by counting up is the newer; two that are exactly
+ * 2147483648 apart have no order. A mark stands where it is not 0; the library writes 1 and 0. Sound: heard is 0 while unheard stands. */
+typedef struct {
+    uint32_t next;    /* the serial of the next parcel; the one before it was the last sent, unless nothing was */
+    uint32_t heard;   /* the newest serial of those delivered */
+    uint32_t unsent;  /* the mark: nothing was sent */
+    uint32_t unheard; /* the mark: nothing was heard */
+} wg_pair;
+
+/* Accepted steps send, again, deliver and lose, and what went between each two sites. Sound: each count at most WG_LENGTH_MAX,
+ * sent + copied = absorbed + lost + occupied slots, and the pair of each two different sites of the run sound. The pair of a site with itself,
+ * and one with a site that the run does not have, is never looked at and never written, by wg_fresh neither. */
 typedef struct {
     uint64_t sent, copied, absorbed, lost;
+    wg_pair pairs[WG_SITES_MAX][WG_SITES_MAX]; /* [sender][destination], however many sites the run has */
 } wg_ledger;
 
 /* A run's words hold its tables one after the other: site k's begins at word k x 2 x capacity. A table is pairs of an id and a length; those
@@ -136,11 +160,12 @@ typedef struct {
 
 /* ---- The library -------------------------------------------------------------------------------------------------------------------- */
 
-/* Makes a run fresh: every word, slot and counter 0, whatever stood there.
+/* Makes a run fresh: every word, slot and count 0, whatever stood there. Each pair of two different sites of the run has `first` for its next
+ * serial, 0 for the newest heard, and both marks.
  * Refuses with 1 exactly when sites is not 1 to 16, capacity is above 2,048, n_slots is above 1,024, or n_words is not
  * sites x 2 x capacity. */
 uint32_t wg_fresh(uint64_t *words, size_t n_words, wg_parcel *slots, size_t n_slots, wg_ledger *ledger,
-                  uint64_t sites, uint64_t capacity);
+                  uint64_t sites, uint64_t capacity, uint32_t first);
 
 /* One step of a run; the four numbers are those above. *value is what the step returns, and 0 on a refusal.
  *
@@ -152,11 +177,14 @@ uint32_t wg_fresh(uint64_t *words, size_t n_words, wg_parcel *slots, size_t n_sl
  *   query     3 no such site
  *   send      3 no such site (either), 4 both the same, 6 the length at the sender is 0, 9 no free slot, 10 sent is WG_LENGTH_MAX
  *   merge     3 no such site (either), 4 both the same, 8 the ids of both tables together are more than the capacity
- *   deliver   5 no such slot or a free one, 8 the id has no entry at its site and the table is full, 10 absorbed is WG_LENGTH_MAX
+ *   deliver   5 no such slot or a free one, 15 something was heard on the parcel's pair and the parcel's serial is 2147483648 from the newest,
+ *             8 the id has no entry at its site and the table is full, 10 absorbed is WG_LENGTH_MAX
  *   again     5 no such slot or a free one, 9 no free slot, 10 copied is WG_LENGTH_MAX
  *   lose      5 no such slot or a free one, 10 lost is WG_LENGTH_MAX
  *
- * A new parcel takes the free slot with the lowest number. A delivery that is refused leaves its parcel waiting. */
+ * A new parcel takes the free slot with the lowest number. A refused send uses no serial. A delivery that is refused leaves its parcel waiting
+ * and the newest heard as it was. An accepted one makes the parcel's serial the newest heard where it is newer, or where nothing was heard;
+ * whether the length rose does not matter. */
 uint32_t wg_step(uint64_t *words, size_t n_words, wg_parcel *slots, size_t n_slots, wg_ledger *ledger,
                  uint64_t sites, uint64_t capacity,
                  uint64_t kind, uint64_t first, uint64_t second, uint64_t id, uint64_t *value);
@@ -172,6 +200,15 @@ uint32_t wg_step(uint64_t *words, size_t n_words, wg_parcel *slots, size_t n_slo
 uint32_t wg_burst(uint64_t *words, size_t n_words, wg_parcel *slots, size_t n_slots, wg_ledger *ledger,
                   uint64_t sites, uint64_t capacity,
                   const uint64_t *asks, size_t n_asks, uint64_t *answers, size_t n_answers);
+
+/* How far site `to` is behind site `from`: *lag is the newest serial that `to` heard from `from`, less the last that `from` sent to `to`, as a
+ * signed difference. 0: the last one sent was heard. -3: three were sent after the newest heard; they may be under way or lost. In a run from
+ * wg_fresh on it is above 0 only where more than 2147483648 were sent after the newest heard. Nothing that is lent changes but *lag.
+ * Refuses in this order, with *lag 0: 1 and 2 as in wg_step; 3 no such site (either); 4 both the same; 16 nothing was sent or nothing heard on
+ * that pair; 15 the two serials are exactly 2147483648 apart. */
+uint32_t wg_lag(uint64_t *words, size_t n_words, wg_parcel *slots, size_t n_slots, wg_ledger *ledger,
+                uint64_t sites, uint64_t capacity,
+                uint64_t from, uint64_t to, int32_t *lag);
 
 /* Which of n_ids ids one table lists. Answer i goes into bit i mod 8 of answers[i / 8], lowest bit first; spare bits of the last byte are 0,
  * and bytes behind it keep what they had. The ids may repeat and need no order. No ids: accepted, nothing written.
@@ -223,9 +260,9 @@ typedef struct {
     uint64_t sites, capacity;
 } wg_run;
 
-/* wg_fresh on a run. */
-static inline uint32_t wg_start(const wg_run *run) {
-    return wg_fresh(run->words, run->n_words, run->slots, run->n_slots, run->ledger, run->sites, run->capacity);
+/* wg_fresh on a run: every pair's first parcel will have the serial `first`. */
+static inline uint32_t wg_start(const wg_run *run, uint32_t first) {
+    return wg_fresh(run->words, run->n_words, run->slots, run->n_slots, run->ledger, run->sites, run->capacity, first);
 }
 
 /* wg_step on a run. */
@@ -238,6 +275,11 @@ static inline uint32_t wg_do(const wg_run *run, uint64_t kind, uint64_t first, u
 static inline uint32_t wg_do_all(const wg_run *run, const uint64_t *asks, size_t n, uint64_t *answers) {
     return wg_burst(run->words, run->n_words, run->slots, run->n_slots, run->ledger, run->sites, run->capacity,
                     asks, WG_ASKS(n), answers, WG_BURST_ANSWERS(n));
+}
+
+/* wg_lag on a run: how far site `to` is behind site `from`, 0 or below in the usual case; -3 is three behind. Refuses with 1, 2, 3, 4, 16, 15. */
+static inline uint32_t wg_behind(const wg_run *run, uint64_t from, uint64_t to, int32_t *lag) {
+    return wg_lag(run->words, run->n_words, run->slots, run->n_slots, run->ledger, run->sites, run->capacity, from, to, lag);
 }
 
 /* Publishes id at a site. Refuses with 1, 2, 3, 8. */
@@ -265,7 +307,7 @@ static inline uint32_t wg_merge(const wg_run *run, uint64_t from, uint64_t to, u
     return wg_do(run, WG_MERGE, from, to, 0, rose);
 }
 
-/* Delivers the parcel in a slot at its site. Refuses with 1, 2, 5, 8, 10. */
+/* Delivers the parcel in a slot at its site. Refuses with 1, 2, 5, 15, 8, 10. */
 static inline uint32_t wg_deliver(const wg_run *run, uint64_t slot, uint64_t *length) {
     return wg_do(run, WG_DELIVER, slot, 0, 0, length);
 }

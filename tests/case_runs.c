@@ -6,12 +6,14 @@
 #include "compare.h"
 #include "met.h"
 #include "model.h"
+#include "pairs.h"
 
 static void place_state(rng *r, const shape *s) {
     area_place(&words, r, s->n_words * 8);
     area_place(&slots, r, s->n_slots * sizeof(wg_parcel));
     area_place(&ledger, r, sizeof(wg_ledger));
     area_place(&value, r, 8);
+    area_place(&lag, r, 4);
 }
 
 void share_state(void) {
@@ -20,23 +22,69 @@ void share_state(void) {
     area_share(&ledger);
 }
 
-static area *const state_areas[] = {&words, &slots, &ledger, &value, 0};
+static area *const state_areas[] = {&words, &slots, &ledger, &value, &lag, 0};
 
-static uint32_t do_fresh(const shape *s) {
-    snprintf(doing, sizeof doing, "wg_fresh sites=%" PRIu64 " capacity=%" PRIu64 " n_words=%zu n_slots=%zu",
-             s->sites, s->capacity, s->n_words, s->n_slots);
-    uint32_t a = wg_fresh(LIB(words, uint64_t), s->n_words, LIB(slots, wg_parcel), s->n_slots, LIB(ledger, wg_ledger), s->sites, s->capacity);
-    uint32_t b = model_fresh(MOD(words, uint64_t), s->n_words, MOD(slots, wg_parcel), s->n_slots, MOD(ledger, wg_ledger), s->sites, s->capacity);
+static uint32_t do_fresh(rng *r, const shape *s) {
+    uint32_t first = some_serial(r);
+    snprintf(doing, sizeof doing, "wg_fresh sites=%" PRIu64 " capacity=%" PRIu64 " n_words=%zu n_slots=%zu first=%" PRIu32,
+             s->sites, s->capacity, s->n_words, s->n_slots, first);
+    uint32_t a = wg_fresh(LIB(words, uint64_t), s->n_words, LIB(slots, wg_parcel), s->n_slots, LIB(ledger, wg_ledger), s->sites, s->capacity, first);
+    uint32_t b = model_fresh(MOD(words, uint64_t), s->n_words, MOD(slots, wg_parcel), s->n_slots, MOD(ledger, wg_ledger), s->sites, s->capacity, first);
     same_answers(a, b, "refusal");
     same_areas(state_areas);
     meet(FRESH, b);
+    if (b == 0) meet_fresh(first);
     return b;
+}
+
+/* What a send or a delivery is about, as it stands before the step. */
+typedef struct {
+    int told; /* there is something: a send between two sites of the run, or the delivery of a parcel */
+    wg_pair pair;
+    wg_parcel parcel;
+    uint64_t length; /* of the id at the parcel's site */
+    int no_room, count_full;
+} scene;
+
+static uint64_t length_at(const shape *s, uint64_t site, uint64_t id, int *full) {
+    const uint64_t *table = MOD(words, uint64_t) + site * 2 * s->capacity;
+    uint64_t k;
+    for (k = 0; k < s->capacity && table[2 * k + 1] != 0; k++)
+        if (table[2 * k] == id) return table[2 * k + 1];
+    *full = k == s->capacity;
+    return 0;
+}
+
+static scene scene_of(const shape *s, numbers n) {
+    scene c = {0};
+    const wg_ledger *l = MOD(ledger, wg_ledger);
+    if (s->sites > WG_SITES_MAX || s->capacity > WG_CAPACITY_MAX || s->n_words != s->sites * 2 * s->capacity) return c;
+    if (n.kind == WG_SEND && n.first < s->sites && n.second < s->sites) {
+        c.told = 1;
+        c.pair = l->pairs[n.first][n.second];
+    }
+    if (n.kind != WG_DELIVER || n.first >= s->n_slots) return c;
+    c.parcel = MOD(slots, wg_parcel)[n.first];
+    if (c.parcel.length == 0 || c.parcel.site >= s->sites || c.parcel.sender >= s->sites) return c;
+    c.told = 1;
+    c.pair = l->pairs[c.parcel.sender][c.parcel.site];
+    c.length = length_at(s, c.parcel.site, c.parcel.id, &c.no_room);
+    c.count_full = l->absorbed == WG_LENGTH_MAX;
+    return c;
+}
+
+static void meet_scene(const scene *c, uint64_t kind, uint32_t refusal) {
+    if (!c->told) return;
+    if (kind == WG_SEND && refusal == 0) meet_send(&c->pair);
+    if (kind == WG_DELIVER && refusal == 0) meet_delivery(&c->pair, &c->parcel, c->length);
+    if (kind == WG_DELIVER && refusal == 15) meet_no_order(c->no_room, c->count_full);
 }
 
 static uint32_t do_step(rng *r, const shape *s, numbers n) {
     snprintf(doing, sizeof doing,
              "wg_step sites=%" PRIu64 " capacity=%" PRIu64 " n_words=%zu n_slots=%zu kind=%" PRIu64 " first=%" PRIu64 " second=%" PRIu64 " id=%" PRIu64,
              s->sites, s->capacity, s->n_words, s->n_slots, n.kind, n.first, n.second, n.id);
+    scene before = scene_of(s, n);
     *LIB(value, uint64_t) = *MOD(value, uint64_t) = draw(r);
     uint32_t a = wg_step(LIB(words, uint64_t), s->n_words, LIB(slots, wg_parcel), s->n_slots, LIB(ledger, wg_ledger), s->sites, s->capacity,
                          n.kind, n.first, n.second, n.id, LIB(value, uint64_t));
@@ -47,6 +95,7 @@ static uint32_t do_step(rng *r, const shape *s, numbers n) {
     same_areas(state_areas);
     if (b != 0) same_answers(*LIB(value, uint64_t), 0, "*value of a refusal (model: what it must be)");
     meet(call_of(n.kind), b);
+    meet_scene(&before, n.kind, b);
     if (b != 1 && b != 11) meet_size(s);
     return b;
 }
@@ -54,6 +103,25 @@ static uint32_t do_step(rng *r, const shape *s, numbers n) {
 static uint64_t some_site(rng *r, const shape *s) {
     if (one_in(r, 20)) return one_in(r, 2) ? s->sites : edge(r);
     return below(r, s->sites == 0 || s->sites > 16 ? 3 : s->sites);
+}
+
+static uint32_t do_lag(rng *r, const shape *s) {
+    uint64_t from = some_site(r, s), to = some_site(r, s);
+    if (to == from && s->sites > 1 && s->sites <= 16 && !one_in(r, 8)) to = (from + 1) % s->sites;
+    snprintf(doing, sizeof doing, "wg_lag sites=%" PRIu64 " capacity=%" PRIu64 " n_words=%zu n_slots=%zu from=%" PRIu64 " to=%" PRIu64,
+             s->sites, s->capacity, s->n_words, s->n_slots, from, to);
+    noise(r, &lag);
+    uint32_t a = wg_lag(LIB(words, uint64_t), s->n_words, LIB(slots, wg_parcel), s->n_slots, LIB(ledger, wg_ledger), s->sites, s->capacity,
+                        from, to, LIB(lag, int32_t));
+    uint32_t b = model_lag(MOD(words, uint64_t), s->n_words, MOD(slots, wg_parcel), s->n_slots, MOD(ledger, wg_ledger), s->sites, s->capacity,
+                           from, to, MOD(lag, int32_t));
+    same_answers(a, b, "refusal");
+    same_answers((uint32_t)*LIB(lag, int32_t), (uint32_t)*MOD(lag, int32_t), "*lag (modulo 4294967296)");
+    same_areas(state_areas);
+    if (b != 0) same_answers((uint32_t)*LIB(lag, int32_t), 0, "*lag of a refusal (model: what it must be)");
+    meet(LAG, b);
+    if (b == 0 || b > 4) meet_lag(&MOD(ledger, wg_ledger)->pairs[from][to], b, *MOD(lag, int32_t));
+    return b;
 }
 
 numbers some_numbers(rng *r, const shape *s, const pool *p) {
@@ -77,21 +145,24 @@ numbers some_numbers(rng *r, const shape *s, const pool *p) {
     return n;
 }
 
+/* The next slot from this one on, round to it again, that is occupied. */
+static uint64_t occupied_from(const shape *s, uint64_t slot) {
+    size_t k;
+    for (k = 0; k < s->n_slots; k++) {
+        uint64_t at = (slot + k) % s->n_slots;
+        if (LIB(slots, wg_parcel)[at].length != 0) return at;
+    }
+    return slot;
+}
+
 numbers telling_numbers(rng *r, const shape *s, const pool *p) {
     numbers n = some_numbers(r, s, p);
-    size_t k, from;
     if (n.kind >= 1 && n.kind <= 4 && n.first < s->sites && s->capacity > 0 && !one_in(r, 4)) {
         const uint64_t *table = LIB(words, uint64_t) + n.first * 2 * s->capacity, *entry = table + 2 * below(r, s->capacity);
         if (entry[1] == 0) entry = table;
         if (entry[1] != 0) n.id = entry[0];
     }
-    if (n.kind >= 6 && n.kind <= 8 && n.first < s->n_slots) {
-        from = (size_t)n.first;
-        for (k = 0; k < s->n_slots; k++) {
-            n.first = (from + k) % s->n_slots;
-            if (LIB(slots, wg_parcel)[n.first].length != 0) break;
-        }
-    }
+    if (n.kind >= 6 && n.kind <= 8 && n.first < s->n_slots) n.first = occupied_from(s, n.first);
     return n;
 }
 
@@ -111,9 +182,11 @@ void case_run(rng *r, int large) {
     noise(r, &slots);
     noise(r, &ledger);
     pool_for(r, &s);
-    do_fresh(&s);
-    for (k = 0; k < steps; k++)
+    do_fresh(r, &s);
+    for (k = 0; k < steps; k++) {
         do_step(r, &s, one_in(r, 4) ? some_numbers(r, &s, &ids_of_case) : telling_numbers(r, &s, &ids_of_case));
+        if (one_in(r, 24)) do_lag(r, &s);
+    }
 }
 
 void place_sound(rng *r, const shape *s) {
@@ -129,21 +202,25 @@ void case_state(rng *r, int large) {
     share_state();
     for (k = 0; k < steps; k++)
         if (do_step(r, &s, telling_numbers(r, &s, &ids_of_case)) == 2) differ("a state made sound is judged unsound");
+    if (s.n_slots > 0 && one_in(r, 2)) { /* serials meet in deliveries alone */
+        numbers n = {WG_DELIVER, 0, 0, 0};
+        n.first = occupied_from(&s, below(r, s.n_slots));
+        do_step(r, &s, n);
+    }
+    if (do_lag(r, &s) == 2) differ("a state made sound is judged unsound by a lag query");
 }
 
 void case_damage(rng *r, int large) {
     shape s = some_shape(r, large);
     unsigned way = (unsigned)below(r, DAMAGES);
-    numbers n;
     uint32_t refusal;
     place_sound(r, &s);
     if (!damage(r, way, &s, LIB(words, uint64_t), LIB(slots, wg_parcel), LIB(ledger, wg_ledger))) return;
     meet_damage(way);
     share_state();
-    n = telling_numbers(r, &s, &ids_of_case);
-    refusal = do_step(r, &s, n);
+    refusal = one_in(r, 6) ? do_lag(r, &s) : do_step(r, &s, telling_numbers(r, &s, &ids_of_case));
     if (refusal != 2 && refusal != 11) differ("a state damaged by \"%s\" is not refused with 2", damage_names[way]);
-    if (one_in(r, 8)) do_fresh(&s);
+    if (one_in(r, 8)) do_fresh(r, &s);
 }
 
 shape place_bad_sizes(rng *r) {
@@ -160,6 +237,7 @@ shape place_bad_sizes(rng *r) {
 
 void case_sizes(rng *r) {
     shape s = place_bad_sizes(r);
-    if (one_in(r, 4)) do_fresh(&s);
+    if (one_in(r, 4)) do_fresh(r, &s);
+    else if (one_in(r, 6)) do_lag(r, &s);
     else do_step(r, &s, some_numbers(r, &s, &ids_of_case));
 }

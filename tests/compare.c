@@ -29,7 +29,7 @@ void stopped(int sig) {
     differ("%s", sig == SIGALRM ? "the call did not return in 100 seconds" : "a read or write outside what was lent");
 }
 
-area words, slots, ledger, value, asks, burst_answers, ids, answers, line, room, input, out, written;
+area words, slots, ledger, value, lag, asks, burst_answers, ids, answers, line, room, input, out, written;
 
 void same_areas(area *const *list) {
     size_t place;
@@ -52,7 +52,10 @@ void same_answers(uint64_t lib, uint64_t mod, const char *what) {
 
 void noise(rng *r, area *a) {
     size_t k;
-    for (k = 0; k < a->size; k++) a->start[0][k] = (uint8_t)draw(r);
+    for (k = 0; k < a->size; k += 8) {
+        uint64_t n = draw(r);
+        memcpy(a->start[0] + k, &n, a->size - k < 8 ? a->size - k : 8);
+    }
     area_share(a);
 }
 
@@ -61,6 +64,7 @@ void make_areas(void) {
     area_make(&slots, "slots", 1025 * sizeof(wg_parcel));
     area_make(&ledger, "ledger", sizeof(wg_ledger));
     area_make(&value, "value", 8);
+    area_make(&lag, "lag", 4);
     area_make(&asks, "asks", (4 * LONGEST_BURST + 3) * 8);
     area_make(&burst_answers, "answers", (2 * LONGEST_BURST + 20) * 8);
     area_make(&ids, "ids", 4100 * 8);

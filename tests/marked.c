@@ -1,5 +1,5 @@
-/* marked.c: the twelve marked examples P1 to P12, a burst and the sample report, with the very numbers and texts of the rules, through the
- * header's named calls. It compiles as C and as C++. */
+/* marked.c: the twelve marked examples P1 to P12, a burst, serials round their wrap and the sample report, with the very numbers and texts of the
+ * rules, through the header's named calls. It compiles as C and as C++. */
 #include <inttypes.h>
 #include <stdio.h>
 #include <string.h>
@@ -21,7 +21,7 @@ static uint64_t words[2 * 2 * 4];
 static wg_parcel slots[2];
 static wg_ledger ledger;
 
-static wg_run run_of(uint64_t capacity) {
+static wg_run run_from(uint64_t capacity, uint32_t first) {
     wg_run run;
     run.words = words;
     run.n_words = WG_WORDS(2, capacity);
@@ -30,9 +30,11 @@ static wg_run run_of(uint64_t capacity) {
     run.ledger = &ledger;
     run.sites = 2;
     run.capacity = capacity;
-    same("fresh", wg_start(&run), 0);
+    same("fresh", wg_start(&run, first), 0);
     return run;
 }
+
+static wg_run run_of(uint64_t capacity) { return run_from(capacity, 0); }
 
 static void lay(uint64_t *table, const uint64_t *pairs, size_t n) { memcpy(table, pairs, n * 16); }
 
@@ -151,6 +153,134 @@ static void burst(void) {
     same("no steps, unsound", wg_do_all(&run, asks, 0, answers), 2);
 }
 
+/* ---- serials: site 0 sends to site 1 ---- */
+
+static void same_pair(const char *what, const wg_pair *p, uint32_t next, uint32_t heard, uint32_t unsent, uint32_t unheard) {
+    same(what, p->next, next);
+    same(what, p->heard, heard);
+    same(what, p->unsent, unsent);
+    same(what, p->unheard, unheard);
+}
+
+static void same_lag(const char *what, const wg_run *run, uint64_t from, uint64_t to, uint32_t refusal, int32_t want) {
+    int32_t lag = 99;
+    same(what, wg_behind(run, from, to, &lag), refusal);
+    same(what, (uint64_t)(int64_t)lag, (uint64_t)(int64_t)want);
+}
+
+/* Two sends from the last serial on, delivered in the other order. */
+static void wrap(void) {
+    wg_run run = run_from(4, WG_SERIAL_MAX);
+    wg_pair *there = &ledger.pairs[0][1], *back = &ledger.pairs[1][0];
+    uint64_t slot, length;
+    same_pair("fresh", there, 4294967295u, 0, 1, 1);
+    same_pair("fresh, back", back, 4294967295u, 0, 1, 1);
+    same_lag("nothing sent", &run, 0, 1, 16, 0);
+    same("add", wg_add(&run, 0, 7, &length), 0);
+    same("first send", wg_send(&run, 0, 1, 7, &slot), 0);
+    same("its sender", slots[0].sender, 0);
+    same("its serial", slots[0].serial, 4294967295u);
+    same_pair("after it", there, 0, 0, 0, 1);
+    same_lag("nothing heard", &run, 0, 1, 16, 0);
+    same("second send", wg_send(&run, 0, 1, 7, &slot), 0);
+    same("its serial", slots[1].serial, 0);
+    same_pair("after it", there, 1, 0, 0, 1);
+    same("no slot", wg_send(&run, 0, 1, 7, &slot), 9);
+    same_pair("a refused send uses no serial", there, 1, 0, 0, 1);
+    same("the second first", wg_deliver(&run, 1, &length), 0);
+    same_pair("serial 0 heard", there, 1, 0, 0, 0);
+    same_lag("level", &run, 0, 1, 0, 0);
+    same("the first late", wg_deliver(&run, 0, &length), 0);
+    same_pair("an older serial moves nothing", there, 1, 0, 0, 0);
+    same_pair("the way back", back, 4294967295u, 0, 1, 1);
+    same_lag("the way back", &run, 1, 0, 16, 0);
+    same_lag("one site", &run, 1, 1, 4, 0);
+    same_lag("no site", &run, 2, 2, 3, 0);
+}
+
+static void send_and_lose(const wg_run *run) {
+    uint64_t slot;
+    same("send", wg_send(run, 0, 1, 7, &slot), 0);
+    same("lose", wg_lose(run, slot), 0);
+}
+
+/* Five sends, of which the third is copied and then heard; what comes after is under way or lost. */
+static void lags(void) {
+    wg_run run = run_from(4, 4294967294u);
+    uint64_t slot, other, length;
+    same("add", wg_add(&run, 0, 7, &length), 0);
+    send_and_lose(&run);
+    send_and_lose(&run);
+    same("send", wg_send(&run, 0, 1, 7, &slot), 0);
+    same("the third serial", slots[slot].serial, 0);
+    same("again", wg_again(&run, slot, &other), 0);
+    same("a copy keeps its serial", slots[other].serial, 0);
+    same("a copy keeps its sender", slots[other].sender, 0);
+    same("again uses no serial", ledger.pairs[0][1].next, 1);
+    same("deliver", wg_deliver(&run, slot, &length), 0);
+    same_lag("all heard", &run, 0, 1, 0, 0);
+    send_and_lose(&run);
+    send_and_lose(&run);
+    same_lag("two behind", &run, 0, 1, 0, -2);
+    same("the copy", wg_deliver(&run, other, &length), 0);
+    same_lag("still two behind", &run, 0, 1, 0, -2);
+}
+
+/* Serials half of all apart: refused with 15, unless nothing was heard; before 8, and behind 16. */
+static void no_order(void) {
+    static const uint64_t sender[4] = {7, 1, 9, 1}, full[4] = {7, 1, 8, 1};
+    wg_run run = run_from(2, 0);
+    wg_pair *there = &ledger.pairs[0][1];
+    uint64_t slot, length;
+    lay(words, sender, 2);
+    lay(words + 4, full, 2);
+    there->next = 2147483648u;
+    same("send", wg_send(&run, 0, 1, 9, &slot), 0);
+    same("its serial", slots[slot].serial, 2147483648u);
+    same("no room, nothing heard", wg_deliver(&run, slot, &length), 8);
+    there->unheard = 0;
+    same("half way from the newest", wg_deliver(&run, slot, &length), 15);
+    same("its length", length, 0);
+    same("the parcel stays", slots[slot].serial, 2147483648u);
+    same_pair("the pair stays", there, 2147483649u, 0, 0, 0);
+    same("nothing absorbed", ledger.absorbed, 0);
+    same_lag("half way", &run, 0, 1, 15, 0);
+    there->unsent = 4294967295u;
+    same_lag("16 before 15", &run, 0, 1, 16, 0);
+    there->unsent = 0;
+    there->next = 2147483648u;
+    same_lag("the least", &run, 0, 1, 0, -2147483647);
+    there->next = 2147483650u;
+    same_lag("the largest", &run, 0, 1, 0, 2147483647);
+    there->heard = 1;
+    same("one nearer is newer, and there is no room", wg_deliver(&run, slot, &length), 8);
+    there->unheard = 2;
+    same_lag("heard while the mark stands", &run, 0, 1, 2, 0);
+}
+
+/* Pairs that no call may look at are full of noise and stay so; one site has no parcel. */
+static void other_pairs(void) {
+    static wg_ledger before;
+    wg_run run = run_of(1);
+    uint64_t length;
+    same("the bytes of a parcel", sizeof(wg_parcel), 32);
+    same("the bytes of a ledger", sizeof(wg_ledger), 4128);
+    memset(&ledger.pairs, 0xa5, sizeof ledger.pairs);
+    before = ledger;
+    same("fresh", wg_start(&run, 5), 0);
+    before.pairs[0][1].next = before.pairs[1][0].next = 5;
+    before.pairs[0][1].heard = before.pairs[1][0].heard = 0;
+    before.pairs[0][1].unsent = before.pairs[1][0].unsent = before.pairs[0][1].unheard = before.pairs[1][0].unheard = 1;
+    same("fresh writes the two pairs", (uint64_t)memcmp(&before, &ledger, sizeof ledger), 0);
+    same("a step looks at no other", wg_query(&run, 0, 7, &length), 0);
+    run.sites = 1;
+    run.n_words = WG_WORDS(1, 1);
+    same("one site", wg_query(&run, 0, 7, &length), 0);
+    same_lag("one site", &run, 0, 0, 4, 0);
+    slots[0].length = ledger.sent = 1;
+    same("one site with a parcel", wg_query(&run, 0, 7, &length), 2);
+}
+
 static const char sample[] =
     "step=add node=0 id=7\nstep=add node=1 id=7\nstep=send from=1 to=2 id=7\nstep=deliver slot=0\nstep=remove node=0 id=7\n"
     "step=remove node=1 id=7\nstep=remove node=2 id=7\nstep=add node=1 id=7\nstep=send from=0 to=1 id=7\nstep=again slot=0\n"
@@ -220,10 +350,14 @@ int main(void) {
     merges();
     no_room();
     burst();
+    wrap();
+    lags();
+    no_order();
+    other_pairs();
     reports();
     lines();
-    for (k = 0; k < 16; k++)
+    for (k = 0; k < 18; k++)
         if (wg_refusal_text(k)[0] == 0) wrong = 1;
-    if (!wrong) printf("marked: P1 to P12, the burst, the sample report, the longest line and the longest report are as the rules say\n");
+    if (!wrong) printf("marked: P1 to P12, the burst, the serials, the sample report, the longest line and the longest report are as the rules say\n");
     return wrong;
 }

@@ -16,20 +16,23 @@ static const struct {
     {"query", 1 << 0 | 1 << 1 | 1 << 2 | 1 << 3 | 1 << 11},
     {"send", 1 << 0 | 1 << 1 | 1 << 2 | 1 << 3 | 1 << 4 | 1 << 6 | 1 << 9 | 1 << 10},
     {"merge", 1 << 0 | 1 << 1 | 1 << 2 | 1 << 3 | 1 << 4 | 1 << 8 | 1 << 11},
-    {"deliver", 1 << 0 | 1 << 1 | 1 << 2 | 1 << 5 | 1 << 8 | 1 << 10 | 1 << 11},
+    {"deliver", 1 << 0 | 1 << 1 | 1 << 2 | 1 << 5 | 1 << 8 | 1 << 10 | 1 << 11 | 1 << 15},
     {"again", 1 << 0 | 1 << 1 | 1 << 2 | 1 << 5 | 1 << 9 | 1 << 10 | 1 << 11},
     {"lose", 1 << 0 | 1 << 1 | 1 << 2 | 1 << 5 | 1 << 10 | 1 << 11},
     {"no kind", 1 << 11},
     {"burst", 1 << 0 | 1 << 1 | 1 << 2 | 1 << 11 | 1 << 13},
+    {"lag", 1 << 0 | 1 << 1 | 1 << 2 | 1 << 3 | 1 << 4 | 1 << 15 | 1 << 16},
     {"members", 1 << 0 | 1 << 1 | 1 << 2 | 1 << 13 | 1 << 14},
     {"read_line", 1 << 0 | 1 << 11 | 1 << 13},
     {"check_line", 1 << 0 | 1 << 11 | 1 << 13},
     {"write_line", 1 << 0 | 1 << 11 | 1 << 13},
     {"report", 1 << 0 | 1 << 12 | 1 << 13},
-    {"burst step", 1 << 0 | 1 << 3 | 1 << 4 | 1 << 5 | 1 << 6 | 1 << 7 | 1 << 8 | 1 << 9 | 1 << 10 | 1 << 11},
+    {"burst step", 1 << 0 | 1 << 3 | 1 << 4 | 1 << 5 | 1 << 6 | 1 << 7 | 1 << 8 | 1 << 9 | 1 << 10 | 1 << 11 | 1 << 15},
 };
 
-static uint64_t met[ROWS][15], damaged[DAMAGES];
+enum { REFUSALS = 17, SELDOM = 1000 };
+
+static uint64_t met[ROWS][REFUSALS], damaged[DAMAGES];
 
 static int all_largest(const shape *s) { return s->sites == 16 && s->capacity == 2048 && s->n_slots == 1024; }
 
@@ -62,7 +65,7 @@ void meet_burst(const shape *s, size_t steps) {
 int call_of(uint64_t kind) { return kind >= 1 && kind <= 8 ? (int)kind : NO_KIND; }
 
 void meet(int call, uint32_t refusal) {
-    if (refusal > 14 || !(calls[call].can >> refusal & 1)) differ("%s is never refused with %" PRIu32, calls[call].name, refusal);
+    if (refusal >= REFUSALS || !(calls[call].can >> refusal & 1)) differ("%s is never refused with %" PRIu32, calls[call].name, refusal);
     met[call][refusal]++;
 }
 
@@ -73,7 +76,7 @@ void meet_damage(unsigned way) { damaged[way]++; }
 static int print_row(int call) {
     int k, missed = 0;
     printf("%-11s", calls[call].name);
-    for (k = 0; k < 15; k++) {
+    for (k = 0; k < REFUSALS; k++) {
         if (!(calls[call].can >> k & 1)) {
             printf("%9s", "");
             continue;
@@ -87,19 +90,21 @@ static int print_row(int call) {
 
 static int print_refusals(void) {
     int c, k, missed = 0;
-    uint64_t sum[15] = {0};
+    uint64_t sum[REFUSALS] = {0};
     printf("%-11s", "refusal");
-    for (k = 0; k < 15; k++) printf("%9d", k);
+    for (k = 0; k < REFUSALS; k++) printf("%9d", k);
     printf("\n");
     for (c = 0; c < CALLS; c++) {
         missed += print_row(c);
-        for (k = 0; k < 15; k++) sum[k] += met[c][k];
+        for (k = 0; k < REFUSALS; k++) sum[k] += met[c][k];
     }
     printf("%-11s", "all");
-    for (k = 0; k < 15; k++) printf("%9" PRIu64, sum[k]);
+    for (k = 0; k < REFUSALS; k++) printf("%9" PRIu64, sum[k]);
     printf("\n");
-    for (k = 1; k < 15; k++)
-        if (sum[k] < 1000) missed++;
+    for (k = 1; k < REFUSALS; k++)
+        if (sum[k] < SELDOM) missed++;
+    for (c = LAG, k = 15; k <= 16; k++) missed += met[c][k] < SELDOM;
+    missed += met[DELIVER][15] < SELDOM;
     return missed + print_row(IN_BURST);
 }
 
@@ -126,5 +131,6 @@ int print_met(void) {
     int missed = print_refusals();
     missed += print_damages();
     missed += print_counts("steps at sizes", size_names, at_size, 8);
-    return missed + print_counts("bursts", burst_names, bursts, 4);
+    missed += print_counts("bursts", burst_names, bursts, 4);
+    return missed + print_counts("serials", serial_names, serials, serial_count);
 }

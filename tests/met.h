@@ -5,7 +5,7 @@
 #include "states.h"
 
 /* IN_BURST is no call: its refusals are the answers to the steps inside bursts. */
-enum { FRESH, ADD, REMOVE, QUERY, SEND, MERGE, DELIVER, AGAIN, LOSE, NO_KIND, BURST, MEMBERS, READ, CHECK, WRITE, REPORT, CALLS, IN_BURST = CALLS, ROWS };
+enum { FRESH, ADD, REMOVE, QUERY, SEND, MERGE, DELIVER, AGAIN, LOSE, NO_KIND, BURST, LAG, MEMBERS, READ, CHECK, WRITE, REPORT, CALLS, IN_BURST = CALLS, ROWS };
 
 /* The call for the steps of that kind. */
 int call_of(uint64_t kind);
@@ -15,6 +15,18 @@ void meet(int call, uint32_t refusal);
 void meet_damage(unsigned way);
 void meet_size(const shape *s);
 void meet_burst(const shape *s, size_t steps);
+
+/* met_serials.c: a fresh run with this first serial; an accepted send on a pair, as it stood before; an accepted delivery, with the pair and the
+ * id's length as they stood; one refused with 15 where 8 or 10 would have been next; a lag query of a pair of the run that got past 4. */
+void meet_fresh(uint32_t first);
+void meet_send(const wg_pair *before);
+void meet_delivery(const wg_pair *before, const wg_parcel *p, uint64_t length);
+void meet_no_order(int no_room, int count_full);
+void meet_lag(const wg_pair *p, uint32_t refusal, int32_t lag);
+
+extern const char *const serial_names[];
+extern uint64_t serials[];
+extern const int serial_count;
 
 /* Prints all of it, and returns how much was not met, or a refusal too seldom. */
 int print_met(void);

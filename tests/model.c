@@ -82,13 +82,25 @@ static void pack(const struct set *s, uint64_t *words, uint64_t capacity) {
 
 /* ---- slots and ledger ---- */
 
-static bool free_slot(const wg_parcel *p) { return p->site == 0 && p->id == 0 && p->length == 0; }
-
-static bool sound_slot(const wg_parcel *p, uint64_t sites) {
-    return free_slot(p) || (p->length >= 1 && p->length <= M && p->site < sites);
+/* "a free slot has them all 0" */
+static bool free_slot(const wg_parcel *p) {
+    return p->site == 0 && p->id == 0 && p->length == 0 && p->sender == 0 && p->serial == 0;
 }
 
-static void make_free(wg_parcel *p) { p->site = p->id = p->length = 0; }
+/* "a length of 1 to M and a site of the run", "a sender of the run other than its destination" */
+static bool sound_slot(const wg_parcel *p, uint64_t sites) {
+    if (free_slot(p)) return true;
+    if (p->length < 1 || p->length > M) return false;
+    if (p->site >= sites) return false;
+    if (p->sender >= sites) return false;
+    return p->sender != p->site;
+}
+
+static void make_free(wg_parcel *p) {
+    p->site = p->id = p->length = 0;
+    p->sender = 0;
+    p->serial = 0;
+}
 
 static uint64_t waiting(const wg_parcel *slots, size_t n) {
     uint64_t count = 0;
@@ -101,6 +113,47 @@ static bool sound_ledger(const wg_ledger *l, uint64_t waits) {
     if (l->sent > M || l->copied > M || l->absorbed > M || l->lost > M) return false;
     return l->sent + l->copied == l->absorbed + l->lost + waits;
 }
+
+/* ---- serials ---- */
+
+#define LAST UINT64_C(4294967295) /* 2^SERIAL_BITS - 1, SERIAL_BITS being 32 */
+#define HALF UINT64_C(2147483648) /* 2^(SERIAL_BITS - 1) */
+
+/* RFC 1982, section 3.2: "s1 is said to be less than s2 if, and only if, s1 is not equal to s2, and
+ * (i1 < i2 and i2 - i1 < 2^(SERIAL_BITS - 1)) or (i1 > i2 and i1 - i2 > 2^(SERIAL_BITS - 1))". */
+static bool less(uint64_t i1, uint64_t i2) {
+    if (i1 < i2) return i2 - i1 < HALF;
+    if (i1 > i2) return i1 - i2 > HALF;
+    return false;
+}
+
+/* "s1 is said to be greater than s2 if, and only if, s1 is not equal to s2, and
+ * (i1 < i2 and i2 - i1 > 2^(SERIAL_BITS - 1)) or (i1 > i2 and i1 - i2 < 2^(SERIAL_BITS - 1))". */
+static bool greater(uint64_t i1, uint64_t i2) {
+    if (i1 < i2) return i2 - i1 > HALF;
+    if (i1 > i2) return i1 - i2 < HALF;
+    return false;
+}
+
+/* "there are some pairs of values s1 and s2 for which s1 is not equal to s2, but for which s1 is neither greater than, nor less than, s2" */
+static bool no_order(uint64_t i1, uint64_t i2) { return i1 != i2 && !greater(i1, i2) && !less(i1, i2); }
+
+static uint64_t serial_after(uint64_t serial) { return serial == LAST ? 0 : serial + 1; }
+
+static uint64_t serial_before(uint64_t serial) { return serial == 0 ? LAST : serial - 1; }
+
+/* a - b, once round the circle where that is the nearer way; a and b have an order */
+static int64_t apart(uint64_t a, uint64_t b) {
+    int64_t by = (int64_t)a - (int64_t)b;
+    if (by > 2147483647) by = by - 4294967296;
+    if (by < -2147483647) by = by + 4294967296;
+    return by;
+}
+
+static wg_pair *pair_of(wg_ledger *l, uint64_t sender, uint64_t destination) { return &l->pairs[sender][destination]; }
+
+/* "the newest heard is 0 while its mark stands" */
+static bool sound_pair(const wg_pair *p) { return p->unheard == 0 || p->heard == 0; }
 
 static size_t lowest_free(const wg_parcel *slots, size_t n) {
     size_t k;
@@ -118,14 +171,26 @@ static bool sizes(const wg_run *run) {
     return run->n_words == run->sites * 2 * run->capacity;
 }
 
+/* "each ordered pair of different sites starts at one first serial"; "fresh, both marks stand" */
+static void fresh_pair(wg_pair *pair, uint32_t first) {
+    pair->next = first;
+    pair->heard = 0;
+    pair->unsent = 1;
+    pair->unheard = 1;
+}
+
 uint32_t model_fresh(uint64_t *words, size_t n_words, wg_parcel *slots, size_t n_slots, wg_ledger *ledger,
-                     uint64_t sites, uint64_t capacity) {
+                     uint64_t sites, uint64_t capacity, uint32_t first) {
     const wg_run run = {words, n_words, slots, n_slots, ledger, sites, capacity};
     size_t k;
+    uint64_t a, b;
     if (!sizes(&run)) return 1;
     for (k = 0; k < n_words; k++) words[k] = 0;
     for (k = 0; k < n_slots; k++) make_free(&slots[k]);
     ledger->sent = ledger->copied = ledger->absorbed = ledger->lost = 0;
+    for (a = 0; a < sites; a++)
+        for (b = 0; b < sites; b++)
+            if (a != b) fresh_pair(pair_of(ledger, a, b), first);
     return 0;
 }
 
@@ -148,8 +213,20 @@ static bool sound_slots(const wg_run *run) {
     return true;
 }
 
+/* "No other pair is read, judged or written." */
+static bool sound_pairs(const wg_run *run) {
+    uint64_t from, to;
+    for (from = 0; from < run->sites; from++)
+        for (to = 0; to < run->sites; to++)
+            if (from != to && !sound_pair(pair_of(run->ledger, from, to))) return false;
+    return true;
+}
+
 static bool sound(const wg_run *run) {
-    return unpack_all(run) && sound_slots(run) && sound_ledger(run->ledger, waiting(run->slots, run->n_slots));
+    if (!unpack_all(run)) return false;
+    if (!sound_slots(run)) return false;
+    if (!sound_pairs(run)) return false;
+    return sound_ledger(run->ledger, waiting(run->slots, run->n_slots));
 }
 
 /* ---- the eight steps, in a run whose tables are unpacked; sites and slots that they name are there ---- */
@@ -180,12 +257,17 @@ static uint32_t take_away(const wg_run *run, uint64_t site, uint64_t id, uint64_
 static uint32_t send(const wg_run *run, uint64_t from, uint64_t to, uint64_t id, uint64_t *value) {
     uint64_t now = length_of(&tables[from], id);
     size_t place = lowest_free(run->slots, run->n_slots);
+    wg_pair *link = pair_of(run->ledger, from, to);
     if (now == 0) return 6;
     if (place == run->n_slots) return 9;
     if (run->ledger->sent == M) return 10;
     run->slots[place].site = to;
     run->slots[place].id = id;
     run->slots[place].length = now;
+    run->slots[place].sender = (uint32_t)from;
+    run->slots[place].serial = link->next;
+    link->next = (uint32_t)serial_after(link->next);
+    link->unsent = 0;
     run->ledger->sent++;
     *value = place;
     return 0;
@@ -209,13 +291,20 @@ static uint32_t merge(const wg_run *run, uint64_t from, uint64_t to, uint64_t *v
 
 static uint32_t deliver(const wg_run *run, wg_parcel *slot, uint64_t *value) {
     struct set *table = &tables[slot->site];
+    wg_pair *link = pair_of(run->ledger, slot->sender, slot->site);
     uint64_t now = length_of(table, slot->id);
+    bool anything = link->unheard == 0;
+    if (anything && no_order(slot->serial, link->heard)) return 15;
     if (now == 0 && table->count == run->capacity) return 8;
     if (run->ledger->absorbed == M) return 10;
     if (slot->length > now) {
         now = slot->length;
         put(table, slot->id, now);
         pack(table, words_of(run, slot->site), run->capacity);
+    }
+    if (!anything || greater(slot->serial, link->heard)) {
+        link->heard = slot->serial;
+        link->unheard = 0;
     }
     make_free(slot);
     run->ledger->absorbed++;
@@ -273,6 +362,27 @@ uint32_t model_step(uint64_t *words, size_t n_words, wg_parcel *slots, size_t n_
     case 7: return again(&run, &slots[first], value);
     default: return lose(&run, &slots[first]);
     }
+}
+
+/* ---- the lag ---- */
+
+uint32_t model_lag(uint64_t *words, size_t n_words, wg_parcel *slots, size_t n_slots, wg_ledger *ledger,
+                   uint64_t sites, uint64_t capacity,
+                   uint64_t from, uint64_t to, int32_t *lag) {
+    const wg_run run = {words, n_words, slots, n_slots, ledger, sites, capacity};
+    const wg_pair *link;
+    uint64_t last_sent;
+    *lag = 0;
+    if (!sizes(&run)) return 1;
+    if (!sound(&run)) return 2; /* for a query too */
+    if (from >= sites || to >= sites) return 3;
+    if (from == to) return 4;
+    link = pair_of(ledger, from, to);
+    last_sent = serial_before(link->next);
+    if (link->unsent != 0 || link->unheard != 0) return 16;
+    if (no_order(link->heard, last_sent)) return 15;
+    *lag = (int32_t)apart(link->heard, last_sent);
+    return 0;
 }
 
 /* ---- bursts ---- */
@@ -446,7 +556,7 @@ static void run_line(size_t number, const uint8_t *line, size_t n, bool ended) {
 
 static void run_text(const uint8_t *input, size_t n) {
     size_t from = 0, number = 1, k;
-    model_fresh(state.words, 48, state.slots, 8, &state.ledger, 3, 8);
+    model_fresh(state.words, 48, state.slots, 8, &state.ledger, 3, 8, 0);
     for (k = 0; k < n; k++) {
         if (input[k] != 10) continue;
         run_line(number++, input + from, k - from, true);

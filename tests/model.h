@@ -6,13 +6,16 @@
 #include "wiregantry.h"
 
 uint32_t model_fresh(uint64_t *words, size_t n_words, wg_parcel *slots, size_t n_slots, wg_ledger *ledger,
-                     uint64_t sites, uint64_t capacity);
+                     uint64_t sites, uint64_t capacity, uint32_t first);
 uint32_t model_step(uint64_t *words, size_t n_words, wg_parcel *slots, size_t n_slots, wg_ledger *ledger,
                     uint64_t sites, uint64_t capacity,
                     uint64_t kind, uint64_t first, uint64_t second, uint64_t id, uint64_t *value);
 uint32_t model_burst(uint64_t *words, size_t n_words, wg_parcel *slots, size_t n_slots, wg_ledger *ledger,
                      uint64_t sites, uint64_t capacity,
                      const uint64_t *asks, size_t n_asks, uint64_t *answers, size_t n_answers);
+uint32_t model_lag(uint64_t *words, size_t n_words, wg_parcel *slots, size_t n_slots, wg_ledger *ledger,
+                   uint64_t sites, uint64_t capacity,
+                   uint64_t from, uint64_t to, int32_t *lag);
 uint32_t model_members(const uint64_t *table, size_t n_words, const uint64_t *ids, size_t n_ids,
                        uint8_t *answers, size_t n_answers);
 uint32_t model_read_line(const uint8_t *line, size_t n, uint8_t *area, size_t n_area);

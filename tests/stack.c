@@ -23,7 +23,7 @@ static const wg_run run = {words, WG_WORDS(WG_SITES_MAX, WG_CAPACITY_MAX), slots
 /* The first two tables with 1,000 ids each, a third of them common. */
 static void start(void) {
     uint64_t k;
-    wg_start(&run);
+    wg_start(&run, UINT32_MAX);
     for (k = 0; k < 1000; k++) {
         words[2 * k] = 3 * k;
         words[2 * (WG_CAPACITY_MAX + k)] = 2 * k;
@@ -33,6 +33,7 @@ static void start(void) {
 
 static void *steps(void *unused) {
     uint64_t value;
+    int32_t lag;
     start();
     wg_add(&run, 0, 1, &value);
     wg_remove(&run, 0, 1, &value);
@@ -42,6 +43,7 @@ static void *steps(void *unused) {
     wg_deliver(&run, 0, &value);
     wg_lose(&run, 1);
     wg_merge(&run, 0, 1, &value);
+    if (wg_behind(&run, 0, 1, &lag) != WG_ACCEPTED) exit(2);
     return unused;
 }
 

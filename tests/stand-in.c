@@ -3,6 +3,7 @@
 #define model_fresh wg_fresh
 #define model_step wg_step
 #define model_burst wg_burst
+#define model_lag wg_lag
 #define model_members wg_members
 #define model_read_line wg_read_line
 #define model_check_line wg_check_line

@@ -2,6 +2,8 @@
 
 #include <string.h>
 
+#include "pairs.h"
+
 #define M UINT64_C(4294967295)
 
 /* ---- sizes ---- */
@@ -86,15 +88,23 @@ void some_table(rng *r, const pool *p, uint64_t *words, uint64_t capacity) {
     }
 }
 
-static size_t some_slots(rng *r, const shape *s, const pool *p, wg_parcel *slots) {
+/* A parcel from one site of the run to another, of which there are two at least; its serial is near the newest heard. */
+static void some_parcel(rng *r, const shape *s, const pool *p, const wg_ledger *ledger, wg_parcel *parcel) {
+    parcel->site = below(r, s->sites);
+    parcel->sender = (uint32_t)((parcel->site + 1 + below(r, s->sites - 1)) % s->sites);
+    parcel->serial = serial_near(r, ledger->pairs[parcel->sender][parcel->site].heard);
+    parcel->id = some_id(r, p);
+    parcel->length = some_length(r);
+}
+
+static size_t some_slots(rng *r, const shape *s, const pool *p, const wg_ledger *ledger, wg_parcel *slots) {
     uint64_t chance = one_in(r, 4) ? 8 : one_in(r, 6) ? 0 : below(r, 9);
     size_t k, occupied = 0;
+    if (s->sites < 2) chance = 0;
+    memset(slots, 0, s->n_slots * sizeof *slots);
     for (k = 0; k < s->n_slots; k++) {
-        slots[k].site = slots[k].id = slots[k].length = 0;
         if (below(r, 8) >= chance) continue;
-        slots[k].site = below(r, s->sites);
-        slots[k].id = some_id(r, p);
-        slots[k].length = some_length(r);
+        some_parcel(r, s, p, ledger, &slots[k]);
         occupied++;
     }
     return occupied;
@@ -124,7 +134,8 @@ void some_state(rng *r, const shape *s, const pool *p, uint64_t *words, wg_parce
         /* nearly equal tables are what a repair meets */
         if (k > 0 && s->capacity > 0 && one_in(r, 5)) memcpy(table, table - 2 * s->capacity, (size_t)(16 * s->capacity));
     }
-    some_ledger(r, some_slots(r, s, p, slots), ledger);
+    some_pairs(r, s, ledger);
+    some_ledger(r, some_slots(r, s, p, ledger, slots), ledger);
 }
 
 /* ---- damage ---- */
@@ -150,6 +161,11 @@ const char *const damage_names[DAMAGES] = {
     "counter one too low",
     "slot emptied",
     "slot filled",
+    "free slot with a sender",
+    "free slot with a serial",
+    "parcel from no site",
+    "parcel from its own site",
+    "something heard while the mark of nothing heard stands",
 };
 
 static size_t in_use(const uint64_t *words, uint64_t capacity) {
@@ -227,6 +243,25 @@ static wg_parcel *one_slot(rng *r, const shape *s, wg_parcel *slots, int occupie
     return 0;
 }
 
+/* In a run of one site, which has no parcel to damage: one that is right but for its sender, and counted. */
+static wg_parcel *lone_parcel(rng *r, wg_parcel *free, wg_ledger *l) {
+    uint64_t *count = l->sent < M ? &l->sent : &l->copied;
+    if (!free || *count == M) return 0;
+    free->id = below(r, 3);
+    free->length = 1 + below(r, 3);
+    free->serial = some_serial(r);
+    *count += 1;
+    return free;
+}
+
+static int damage_sender(rng *r, unsigned way, const shape *s, wg_parcel *slots, wg_ledger *l) {
+    wg_parcel *p = s->sites == 1 ? lone_parcel(r, one_slot(r, s, slots, 0), l) : one_slot(r, s, slots, 1);
+    if (!p) return 0;
+    if (way == 23) p->sender = (uint32_t)p->site;
+    else p->sender = one_in(r, 2) ? (uint32_t)s->sites : one_in(r, 2) ? UINT32_MAX : (uint32_t)(s->sites + below(r, 16));
+    return 1;
+}
+
 static int damage_slot(rng *r, unsigned way, const shape *s, wg_parcel *slots) {
     wg_parcel *p = one_slot(r, s, slots, way == 12 || way == 13 || way == 18);
     if (!p) return 0;
@@ -236,9 +271,22 @@ static int damage_slot(rng *r, unsigned way, const shape *s, wg_parcel *slots) {
     case 11: p->site = below(r, 2); p->id = 1 + below(r, 3); return 1;
     case 12: p->length = above_m(r); return 1;
     case 13: p->site = one_in(r, 2) ? s->sites : one_in(r, 2) ? UINT64_MAX : s->sites + (UINT64_C(1) << 32); return 1;
-    case 18: p->site = p->id = p->length = 0; return 1;
-    default: p->site = below(r, s->sites); p->length = 1; return 1;
+    case 18: memset(p, 0, sizeof *p); return 1;
+    case 20: p->sender = one_in(r, 2) ? 1 : UINT32_MAX; return 1;
+    case 21: p->serial = one_in(r, 2) ? 1 : one_in(r, 2) ? UINT32_MAX : HALF_WAY; return 1;
+    default: p->site = below(r, s->sites); p->sender = (uint32_t)((p->site + 1) % s->sites); p->length = 1; return 1;
     }
+}
+
+static int damage_pair(rng *r, const shape *s, wg_ledger *l) {
+    uint64_t from = below(r, s->sites), more;
+    wg_pair *p;
+    if (s->sites < 2) return 0;
+    more = 1 + below(r, s->sites - 1);
+    p = &l->pairs[from][(from + more) % s->sites];
+    while (p->unheard == 0) p->unheard = some_mark(r);
+    p->heard = one_in(r, 2) ? 1 : 1 + (uint32_t)below(r, UINT32_MAX);
+    return 1;
 }
 
 static int damage_ledger(rng *r, unsigned way, wg_ledger *l) {
@@ -279,6 +327,8 @@ static int damage_ledger(rng *r, unsigned way, wg_ledger *l) {
 
 int damage(rng *r, unsigned way, const shape *s, uint64_t *words, wg_parcel *slots, wg_ledger *ledger) {
     if (way < TABLE_DAMAGES) return damage_table(r, way, words + below(r, s->sites) * 2 * s->capacity, s->capacity);
-    if (way < 14 || way >= 18) return damage_slot(r, way, s, slots);
-    return damage_ledger(r, way, ledger);
+    if (way >= 14 && way < 18) return damage_ledger(r, way, ledger);
+    if (way == 24) return damage_pair(r, s, ledger);
+    if (way >= 22) return damage_sender(r, way, s, slots, ledger);
+    return damage_slot(r, way, s, slots);
 }

@@ -33,7 +33,7 @@ void some_state(rng *r, const shape *s, const pool *p, uint64_t *words, wg_parce
 void some_table(rng *r, const pool *p, uint64_t *words, uint64_t capacity);
 
 /* Damages a sound state or a sound table in the way with that number; 0 where the state has nothing that can be damaged so. */
-enum { TABLE_DAMAGES = 9, DAMAGES = 20 };
+enum { TABLE_DAMAGES = 9, DAMAGES = 25 };
 extern const char *const damage_names[DAMAGES];
 int damage_table(rng *r, unsigned way, uint64_t *words, uint64_t capacity);
 int damage(rng *r, unsigned way, const shape *s, uint64_t *words, wg_parcel *slots, wg_ledger *ledger);
