@@ -1,6 +1,7 @@
-/* step.c: any bytes as a state and some steps. The first four say the sizes, the next ones are the words, the slots and the ledger, a byte to a
- * number that is mostly small; the rest are steps, four bytes each. The library and the model must agree on every answer and on all that is lent,
- * step by step and then in one burst. */
+/* step.c: any bytes as a state and some steps. The first four say the sizes, the next ones are the words, the slots and the counts, a byte to a
+ * number that is mostly small; then a byte says whether the run is made fresh, has fresh pairs, or has its pairs among the bytes too; the rest are
+ * steps, four bytes each. The library and the model must agree on every answer and on all that is lent, step by step, in one burst, and on the lag
+ * of every two sites after each. */
 #include "model.h"
 #include <stdlib.h>
 #include <string.h>
@@ -31,6 +32,10 @@ static unsigned byte(void) {
 static uint64_t number(void) {
     unsigned b = byte();
     switch (b) {
+    case 246: return 2147483646u;
+    case 247: return 2147483647u;
+    case 248: return 2147483648u;
+    case 249: return 2147483649u;
     case 250: return 4294967294u;
     case 251: return 4294967295u;
     case 252: return 4294967296u;
@@ -50,26 +55,57 @@ static sizes some_sizes(void) {
     return z;
 }
 
+static void fill_pairs(wg_ledger *l, const sizes *z, int told) {
+    uint64_t from, to;
+    memset(l->pairs, 0x5a, sizeof l->pairs); /* what stands outside the run must stay */
+    for (from = 0; from < z->sites; from++)
+        for (to = 0; to < z->sites; to++) {
+            wg_pair *p = &l->pairs[from][to];
+            if (from == to) continue;
+            p->next = told ? (uint32_t)number() : 0;
+            p->heard = told ? (uint32_t)number() : 0;
+            p->unsent = told ? (uint32_t)number() : 1;
+            p->unheard = told ? (uint32_t)number() : 1;
+        }
+}
+
 static void fill(state *s, const sizes *z) {
     size_t k;
+    unsigned way;
     memset(s, 0, sizeof *s);
     for (k = 0; k < z->n_words; k++) s->words[k] = number();
     for (k = 0; k < z->n_slots; k++) {
         s->slots[k].site = number();
         s->slots[k].id = number();
         s->slots[k].length = number();
+        s->slots[k].sender = (uint32_t)number();
+        s->slots[k].serial = (uint32_t)number();
     }
     s->ledger.sent = number();
     s->ledger.copied = number();
     s->ledger.absorbed = number();
     s->ledger.lost = number();
-    if (byte() % 4 == 0) wg_fresh(s->words, z->n_words, s->slots, z->n_slots, &s->ledger, z->sites, z->capacity);
+    way = byte() % 4;
+    fill_pairs(&s->ledger, z, way > 1);
+    if (way == 0) wg_fresh(s->words, z->n_words, s->slots, z->n_slots, &s->ledger, z->sites, z->capacity, (uint32_t)number());
 }
 
 static uint64_t asks[WG_ASKS(STEPS)], alone[WG_BURST_ANSWERS(STEPS)];
 static state before, ours, theirs;
 
 static int same_states(void) { return memcmp(&ours, &theirs, sizeof ours) == 0; }
+
+/* Of every two sites, and of one that the run does not have. */
+static void take_lags(const sizes *z) {
+    uint64_t from, to;
+    for (from = 0; from <= z->sites; from++)
+        for (to = 0; to <= z->sites; to++) {
+            int32_t lag = 1, other = 2;
+            uint32_t a = wg_lag(ours.words, z->n_words, ours.slots, z->n_slots, &ours.ledger, z->sites, z->capacity, from, to, &lag);
+            uint32_t b = model_lag(theirs.words, z->n_words, theirs.slots, z->n_slots, &theirs.ledger, z->sites, z->capacity, from, to, &other);
+            if (a != b || lag != other || !same_states()) abort();
+        }
+}
 
 /* Leaves the steps in asks, what they answered in alone, and returns how many they were. */
 static size_t take_steps(const sizes *z) {
@@ -113,11 +149,15 @@ int LLVMFuzzerTestOneInput(const uint8_t *data, size_t n);
 
 int LLVMFuzzerTestOneInput(const uint8_t *data, size_t n) {
     sizes z;
+    size_t steps;
     next = data;
     left = n;
     z = some_sizes();
     fill(&before, &z);
     ours = theirs = before;
-    take_burst(&z, take_steps(&z));
+    take_lags(&z);
+    steps = take_steps(&z);
+    take_lags(&z);
+    take_burst(&z, steps);
     return 0;
 }
