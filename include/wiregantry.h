@@ -202,8 +202,9 @@ uint32_t wg_burst(uint64_t *words, size_t n_words, wg_parcel *slots, size_t n_sl
                   const uint64_t *asks, size_t n_asks, uint64_t *answers, size_t n_answers);
 
 /* How far site `to` is behind site `from`: *lag is the newest serial that `to` heard from `from`, less the last that `from` sent to `to`, as a
- * signed difference. 0: the last one sent was heard. -3: three were sent after the newest heard; they may be under way or lost. In a run from
- * wg_fresh on it is above 0 only where more than 2147483648 were sent after the newest heard. Nothing that is lent changes but *lag.
+ * signed difference. 0: the last one sent was heard, whatever was lost before it. -3: three were sent after the newest heard; they may be under
+ * way or lost. A merge has no serial and moves no lag. In a run from wg_fresh on a lag is above 0 only where more than 2147483648 were sent after
+ * the newest heard. Nothing that is lent changes but *lag.
  * Refuses in this order, with *lag 0: 1 and 2 as in wg_step; 3 no such site (either); 4 both the same; 16 nothing was sent or nothing heard on
  * that pair; 15 the two serials are exactly 2147483648 apart. */
 uint32_t wg_lag(uint64_t *words, size_t n_words, wg_parcel *slots, size_t n_slots, wg_ledger *ledger,

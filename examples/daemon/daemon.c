@@ -1,19 +1,28 @@
 /* daemon.c: three sites as three processes that trade updates over UDP on the loopback. The link is bad on purpose: a seeded coin in each sender
- * drops datagrams, repeats them and holds them back, so that they arrive late and out of order. After the last round the tables differ.
- * Then each site sends its whole table to the others, and all three tables are equal.
+ * drops datagrams, repeats them and holds them back, so that they arrive late and out of order, and in the last rounds one site is cut off. After
+ * them the tables differ. Then each site sends its whole table to the others, and all three tables are equal.
  *
  * Each process keeps a run of its own with three sites: its own table, and for each neighbour what it knows of the neighbour's. So every
  * change of its memory is a step of the library:
  *
- *   publish, withdraw        wg_add, wg_remove at the own site, then wg_send to each neighbour: the update waits in a slot
+ *   publish, withdraw        wg_add, wg_remove at the own site, then wg_send to each neighbour: the update waits in a slot, with its serial
  *   the coin drops it        wg_lose
- *   the coin repeats it      wg_again: a second copy waits
- *   it goes out              a datagram with the slot's id and length, and wg_deliver: the neighbour will know this much
+ *   the coin repeats it      wg_again: a second copy waits, with the same serial
+ *   it goes out              a datagram with the slot's sender, serial, id and length, and wg_deliver: the neighbour will know this much
  *   a datagram comes in      wg_add and wg_remove at the neighbour's site up to the length that it told, then wg_merge into the own site
+ *
+ * How far a neighbour is behind is asked of the sender's run, with wg_behind. There the newest serial heard moves on when an update goes out,
+ * since on this link the coin alone loses anything; over a real one a daemon would deliver when the neighbour's word comes back. The receivers
+ * keep the newest serial that they saw in a datagram, and it must be the sender's.
+ *
+ * A lag is about the newest update, not about the tables. 0 says that the last one sent arrived, not that all before it did: between the two sites
+ * that are not cut off the lags are small, and some ids differ all the same. And a whole table has no serial, so the repair makes the tables equal
+ * and leaves every lag as it was; what ends a lag is the next update that arrives. So the lags are asked for three times: before the repair, after
+ * it, and after one more update.
  *
  * The parent only keeps the rounds in step, so that one seed gives one result, and adds up at the end.
  *
- *   daemon [SEED]        ends with status 0 exactly when the tables are equal and every count adds up */
+ *   daemon [SEED]        ends with status 0 exactly when the tables are equal, every count adds up and no site is behind in the end */
 #define _DEFAULT_SOURCE
 #include <arpa/inet.h>
 #include <inttypes.h>
@@ -27,6 +36,10 @@
 #include <wiregantry.h>
 
 enum { SITES = 3, CAPACITY = 64, SLOTS = 10, IDS = 48, ROUNDS = 60, LONGEST = 1000 };
+enum { OUTAGE = 6, CUT_OFF = 2 }; /* in so many rounds, the last ones, nothing gets to this site or from it */
+
+#define FIRST 4294967246u      /* the first serial of each pair: after 50 updates it starts again at 0 */
+#define NO_SERIAL UINT64_MAX   /* stands in a datagram that is a whole table */
 
 static void die(const char *what) {
     perror(what);
@@ -61,9 +74,11 @@ static int sockets[SITES];               /* each process reads its own and write
 static struct sockaddr_in places[SITES];
 static int umpire;                       /* the pipe to the parent */
 
-/* What a process tells its parent at the end. The first counts are its own, kept beside the ledger to compare with it. */
+/* What a process tells its parent. The first counts are its own, kept beside the ledger to compare with it; so are the numbers by neighbour. */
 typedef struct {
     uint64_t sends, copies, told, drops, put_off, heard, stale, waiting;
+    uint32_t sends_to[SITES], newest_from[SITES], any_from[SITES];
+    int32_t lag[SITES]; /* how far each neighbour is behind */
     wg_ledger ledger;
     uint64_t table[2 * CAPACITY];
 } account;
@@ -72,14 +87,17 @@ static account mine;
 
 static uint64_t *own_table(void) { return words + self * 2 * CAPACITY; }
 
-/* ---- datagrams: the sender, how many entries, then an id and a length each ---- */
+/* ---- datagrams: the sender, the serial of an update, how many entries, then an id and a length each ---- */
 
-static void tell(uint64_t site, const uint64_t *entries, uint64_t count) {
-    uint64_t datagram[2 + 2 * CAPACITY];
-    size_t bytes = (size_t)(2 + 2 * count) * 8;
+enum { HEAD = 3 };
+
+static void tell(uint64_t site, uint64_t serial, const uint64_t *entries, uint64_t count) {
+    uint64_t datagram[HEAD + 2 * CAPACITY];
+    size_t bytes = (size_t)(HEAD + 2 * count) * 8;
     datagram[0] = self;
-    datagram[1] = count;
-    memcpy(datagram + 2, entries, (size_t)count * 16);
+    datagram[1] = serial;
+    datagram[2] = count;
+    memcpy(datagram + HEAD, entries, (size_t)count * 16);
     if (sendto(sockets[self], datagram, bytes, 0, (struct sockaddr *)&places[site], sizeof places[site]) != (ssize_t)bytes) die("sendto");
 }
 
@@ -92,49 +110,73 @@ static void learn(uint64_t neighbour, uint64_t id, uint64_t told) {
         must(wg_listed(length) ? wg_remove(&run, neighbour, id, &length) : wg_add(&run, neighbour, id, &length), "add or remove");
 }
 
+/* Newer means ahead by less than half of all serials. This is the receiver's own count, to hold against the sender's ledger. */
+static void note_serial(uint64_t neighbour, uint32_t serial) {
+    uint32_t ahead = serial - mine.newest_from[neighbour];
+    if (!mine.any_from[neighbour] || (ahead != 0 && ahead < 2147483648u)) mine.newest_from[neighbour] = serial;
+    mine.any_from[neighbour] = 1;
+}
+
 static void hear(void) {
-    uint64_t datagram[2 + 2 * CAPACITY], k, rose;
+    uint64_t datagram[HEAD + 2 * CAPACITY], k, rose;
     struct pollfd ready = {sockets[self], POLLIN, 0};
     ssize_t bytes;
     if (poll(&ready, 1, 5000) != 1) die("a datagram that was sent did not arrive");
     bytes = recv(sockets[self], datagram, sizeof datagram, 0);
-    if (bytes < 16 || datagram[0] >= SITES || datagram[0] == self || datagram[1] > CAPACITY || (uint64_t)bytes != 16 + 16 * datagram[1])
+    if (bytes < HEAD * 8 || datagram[0] >= SITES || datagram[0] == self || (datagram[1] > WG_SERIAL_MAX && datagram[1] != NO_SERIAL) ||
+        datagram[2] > CAPACITY || (uint64_t)bytes != HEAD * 8 + 16 * datagram[2])
         die("a datagram of another form");
-    for (k = 0; k < datagram[1]; k++) learn(datagram[0], datagram[2 + 2 * k], datagram[3 + 2 * k]);
+    for (k = 0; k < datagram[2]; k++) learn(datagram[0], datagram[HEAD + 2 * k], datagram[HEAD + 1 + 2 * k]);
     must(wg_merge(&run, datagram[0], self, &rose), "merge");
+    if (datagram[1] != NO_SERIAL) note_serial(datagram[0], (uint32_t)datagram[1]);
     mine.heard++;
     mine.stale += rose == 0; /* repeated, overtaken, or known from elsewhere */
 }
 
 /* ---- one round ---- */
 
-static void update(uint64_t id) {
-    uint64_t length, slot, site;
+static void send_to_all(uint64_t id) {
+    uint64_t slot, site;
     uint32_t refusal;
-    must(coin(5) < 3 ? wg_add(&run, self, id, &length) : wg_remove(&run, self, id, &length), "add or remove");
     for (site = 0; site < SITES; site++) {
         if (site == self) continue;
         refusal = wg_send(&run, self, site, id, &slot);
-        if (refusal == WG_NO_SLOT) mine.put_off++; /* the buffer is full, and the count of it is printed */
-        else if (refusal == WG_ACCEPTED) mine.sends++;
+        if (refusal == WG_NO_SLOT) mine.put_off++; /* the buffer is full, and the count of it is printed; no serial is used */
+        else if (refusal == WG_ACCEPTED) mine.sends++, mine.sends_to[site]++;
         else if (refusal != WG_NOTHING_TO_SEND) must(refusal, "send");
     }
 }
 
-/* What the link does with the update in a slot; `last`: nothing is held back any more. */
-static void travel(uint64_t slot, uint64_t sent_to[SITES], int last) {
+static void update(uint64_t id) {
+    uint64_t length;
+    must(coin(5) < 3 ? wg_add(&run, self, id, &length) : wg_remove(&run, self, id, &length), "add or remove");
+    send_to_all(id);
+}
+
+/* ROUGH: drops, repeats and holds back. CUT: so too, and one site is cut off. LAST: so too, and nothing is held back any more. FAIR: all arrives. */
+enum weather { ROUGH, CUT, LAST, FAIR };
+
+static enum weather weather_of(int round) { return round == ROUNDS ? LAST : round >= ROUNDS - OUTAGE ? CUT : ROUGH; }
+
+static int lost_on_the_way(uint64_t site, uint64_t side, enum weather weather) {
+    if (weather == FAIR) return 0;
+    return side < 40 || (weather != ROUGH && (site == CUT_OFF || self == CUT_OFF));
+}
+
+/* What the link does with the update in a slot. */
+static void travel(uint64_t slot, uint64_t sent_to[SITES], enum weather weather) {
     uint64_t other, length, entry[2], side = coin(100);
     wg_parcel parcel = slots[slot];
-    if (!last && side < 25) return; /* held back: later ones overtake it */
-    if (side < 40) {
+    if (weather < LAST && side < 25) return; /* held back: later ones overtake it */
+    if (lost_on_the_way(parcel.site, side, weather)) {
         must(wg_lose(&run, slot), "lose");
         mine.drops++;
         return;
     }
-    if (!last && side < 60 && wg_again(&run, slot, &other) == WG_ACCEPTED) mine.copies++;
+    if (weather < LAST && side < 60 && wg_again(&run, slot, &other) == WG_ACCEPTED) mine.copies++;
     entry[0] = parcel.id;
     entry[1] = parcel.length;
-    tell(parcel.site, entry, 1);
+    tell(parcel.site, parcel.serial, entry, 1);
     must(wg_deliver(&run, slot, &length), "deliver");
     sent_to[parcel.site]++;
     mine.told++;
@@ -157,15 +199,23 @@ static void listen_up(uint64_t sent_to[SITES]) {
     while (coming-- > 0) hear();
 }
 
-static void one_round(int last) {
+static void one_round(enum weather weather) {
     uint64_t sent_to[SITES] = {0}, k, from = coin(SLOTS);
-    if (!last)
+    if (weather < LAST)
         for (k = 1 + coin(3); k > 0; k--) update(1 + coin(IDS));
     for (k = 0; k < SLOTS; k++) {
         uint64_t slot = (from + 7 * k) % SLOTS; /* 7 and the slots have no common factor, so each has its turn */
-        if (slots[slot].length != 0) travel(slot, sent_to, last);
+        if (slots[slot].length != 0) travel(slot, sent_to, weather);
     }
     listen_up(sent_to);
+}
+
+/* All sites publish the same id, which leaves equal tables equal. */
+static void one_more_update(void) {
+    uint64_t length;
+    must(wg_add(&run, self, 1, &length), "add");
+    send_to_all(1);
+    one_round(FAIR);
 }
 
 static void repair(void) {
@@ -173,14 +223,16 @@ static void repair(void) {
     while (held < CAPACITY && own_table()[2 * held + 1] != 0) held++;
     for (site = 0; site < SITES; site++) {
         if (site == self) continue;
-        tell(site, own_table(), held);
+        tell(site, NO_SERIAL, own_table(), held);
         sent_to[site]++;
     }
     listen_up(sent_to);
 }
 
 static void settle(void) {
-    uint64_t k;
+    uint64_t k, site;
+    for (site = 0; site < SITES; site++)
+        if (site != self) must(wg_behind(&run, self, site, &mine.lag[site]), "lag");
     mine.ledger = ledger;
     memcpy(mine.table, own_table(), sizeof mine.table);
     for (mine.waiting = 0, k = 0; k < SLOTS; k++) mine.waiting += slots[k].length != 0;
@@ -192,10 +244,12 @@ static void be_site(uint64_t site, int pipe_end, uint64_t seed) {
     self = site;
     umpire = pipe_end;
     coin_state = seed * SITES + site;
-    must(wg_start(&run), "fresh");
-    for (k = 0; k <= ROUNDS; k++) one_round(k == ROUNDS);
+    must(wg_start(&run, FIRST), "fresh");
+    for (k = 0; k <= ROUNDS; k++) one_round(weather_of(k));
     settle();
     repair();
+    settle();
+    one_more_update();
     settle();
     exit(0);
 }
@@ -204,6 +258,7 @@ static void be_site(uint64_t site, int pipe_end, uint64_t seed) {
 
 static int pipes[SITES];
 static account accounts[SITES];
+static int32_t lags[3][SITES][SITES]; /* before the repair, after it, after one more update; [sender][destination] */
 
 static void keep_step(void) {
     uint64_t sent_to[SITES][SITES], site, k, coming;
@@ -214,9 +269,12 @@ static void keep_step(void) {
     }
 }
 
-static void collect(void) {
+static void collect(int time) {
     int site;
-    for (site = 0; site < SITES; site++) talk(pipes[site], &accounts[site], sizeof accounts[site], 0);
+    for (site = 0; site < SITES; site++) {
+        talk(pipes[site], &accounts[site], sizeof accounts[site], 0);
+        memcpy(lags[time][site], accounts[site].lag, sizeof lags[time][site]);
+    }
 }
 
 static uint64_t length_in(const uint64_t *table, uint64_t id) {
@@ -226,11 +284,12 @@ static uint64_t length_in(const uint64_t *table, uint64_t id) {
     return 0;
 }
 
-static int ids_that_differ(void) {
+/* Among the first so many sites; the one that is cut off is the last. */
+static int ids_that_differ(uint64_t sites) {
     int differ = 0;
     uint64_t id, site;
     for (id = 1; id <= IDS; id++)
-        for (site = 1; site < SITES; site++)
+        for (site = 1; site < sites; site++)
             if (length_in(accounts[site].table, id) != length_in(accounts[0].table, id)) {
                 differ++;
                 break;
@@ -249,7 +308,28 @@ static int adds_up(const account *a) {
            a->ledger.sent + a->ledger.copied == a->ledger.absorbed + a->ledger.lost + a->waiting;
 }
 
-static int judge(int differed) {
+/* Serials rose by one for each send, the newest one that went out is the newest that came in, and the lag is the distance between the two. */
+static int serials_add_up(int from, int to) {
+    const wg_pair *p = &accounts[from].ledger.pairs[from][to];
+    return p->next == FIRST + accounts[from].sends_to[to] && accounts[to].any_from[from] && p->heard == accounts[to].newest_from[from] &&
+           p->heard - (p->next - 1) == (uint32_t)accounts[from].lag[to];
+}
+
+/* The repair must leave every lag, and one update that arrives must end it. */
+static int judge_lags(void) {
+    int from, to, ok = 1;
+    for (from = 0; from < SITES; from++)
+        for (to = 0; to < SITES; to++) {
+            if (from == to) continue;
+            printf("site %d behind site %d: %" PRId32 " before the repair, %" PRId32 " after it, %" PRId32 " after one more update; serials %u to %" PRIu32 "\n",
+                   to, from, lags[0][from][to], lags[1][from][to], lags[2][from][to], FIRST, accounts[from].ledger.pairs[from][to].next - 1);
+            ok = ok && lags[1][from][to] == lags[0][from][to] && lags[2][from][to] == 0 && serials_add_up(from, to);
+        }
+    printf("%s\n", ok ? "the repair left every lag, since whole tables have no serial; the next update ended it" : "A LAG IS NOT WHAT IT SHOULD BE");
+    return ok;
+}
+
+static int judge(int differed, int near, int repaired) {
     int site, ok = 1;
     uint64_t told = 0, heard = 0, stale = 0, listed = 0, held = 0, k;
     for (site = 0; site < SITES; site++) {
@@ -266,9 +346,9 @@ static int judge(int differed) {
         listed += accounts[0].table[2 * k + 1] & 1;
     }
     printf("datagrams: %" PRIu64 " told, %" PRIu64 " heard, %s brought nothing new\n", told, heard, stale > 0 ? "some" : "none");
-    printf("before the repair %d ids differed; after it the tables are %s: held=%" PRIu64 " shown=%" PRIu64 "\n", differed,
-           tables_equal() ? "equal" : "NOT EQUAL", held, listed);
-    ok = ok && told == heard && tables_equal();
+    printf("before the repair %d ids differed, %d of them at the two sites that were not cut off; after it the tables are %s: held=%" PRIu64
+           " shown=%" PRIu64 "\n", differed, near, repaired && tables_equal() ? "equal" : "NOT EQUAL", held, listed);
+    ok = judge_lags() && ok && told == heard && repaired && tables_equal();
     printf("%s\n", ok ? "every count adds up" : "SOMETHING DOES NOT ADD UP");
     return ok;
 }
@@ -287,7 +367,7 @@ static void open_sockets(void) {
 
 int main(int n_args, char **args) {
     uint64_t seed = n_args > 1 ? strtoull(args[1], 0, 10) : 2020;
-    int site, k, ends[2], differed, status, ok;
+    int site, k, ends[2], differed, near, repaired, status, ok;
     open_sockets();
     for (site = 0; site < SITES; site++) {
         if (socketpair(AF_UNIX, SOCK_STREAM, 0, ends) != 0) die("socketpair");
@@ -298,11 +378,15 @@ int main(int n_args, char **args) {
         }
     }
     for (k = 0; k <= ROUNDS; k++) keep_step();
-    collect();
-    differed = ids_that_differ();
+    collect(0);
+    differed = ids_that_differ(SITES);
+    near = ids_that_differ(CUT_OFF);
     keep_step();
-    collect();
-    ok = judge(differed);
+    collect(1);
+    repaired = tables_equal();
+    keep_step();
+    collect(2);
+    ok = judge(differed, near, repaired);
     for (site = 0; site < SITES; site++)
         if (wait(&status) < 0 || status != 0) ok = 0;
     return ok ? 0 : 1;
