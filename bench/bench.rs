@@ -6,6 +6,7 @@
 mod bursts;
 mod ffi;
 mod jobs;
+mod links;
 mod maps;
 mod paper;
 mod plain;

@@ -1,5 +1,5 @@
 // Bursts of 1,000 steps in the largest state.
-use crate::ffi::{Parcel, State, ADD, AGAIN, DELIVER, LOSE, QUERY, REMOVE, SEND};
+use crate::ffi::{State, ADD, AGAIN, DELIVER, LOSE, QUERY, REMOVE, SEND};
 use crate::jobs::{lay, rising_ids};
 use crate::maps::Kept;
 use crate::{measure, timed, Random, Row};
@@ -42,8 +42,8 @@ fn state_under_way(r: &mut Random) -> State {
     for k in 0..s.slots.len() {
         if r.below(2) == 0 {
             let site = r.below(16);
-            s.slots[k] = Parcel { site, id: some_id(r, &s, site), length: 1 + r.below(5) };
-            s.ledger.sent += 1;
+            let (sender, id, length) = (other_site(r, site), some_id(r, &s, site), 1 + r.below(5));
+            s.under_way(k, sender, site, id, length);
         }
     }
     s

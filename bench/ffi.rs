@@ -5,6 +5,17 @@ pub struct Parcel {
     pub site: u64,
     pub id: u64,
     pub length: u64,
+    pub sender: u32,
+    pub serial: u32,
+}
+
+#[repr(C)]
+#[derive(Clone, Copy, Default, PartialEq)]
+pub struct Pair {
+    pub next: u32,
+    pub heard: u32,
+    pub unsent: u32,
+    pub unheard: u32,
 }
 
 #[repr(C)]
@@ -14,13 +25,18 @@ pub struct Ledger {
     pub copied: u64,
     pub absorbed: u64,
     pub lost: u64,
+    pub pairs: [[Pair; 16]; 16], // [sender][destination]
 }
 
 extern "C" {
+    fn wg_fresh(words: *mut u64, n_words: usize, slots: *mut Parcel, n_slots: usize, ledger: *mut Ledger, sites: u64, capacity: u64,
+                first: u32) -> u32;
     fn wg_step(words: *mut u64, n_words: usize, slots: *mut Parcel, n_slots: usize, ledger: *mut Ledger, sites: u64, capacity: u64,
                kind: u64, first: u64, second: u64, id: u64, value: *mut u64) -> u32;
     fn wg_burst(words: *mut u64, n_words: usize, slots: *mut Parcel, n_slots: usize, ledger: *mut Ledger, sites: u64, capacity: u64,
                 asks: *const u64, n_asks: usize, answers: *mut u64, n_answers: usize) -> u32;
+    fn wg_lag(words: *mut u64, n_words: usize, slots: *mut Parcel, n_slots: usize, ledger: *mut Ledger, sites: u64, capacity: u64,
+              from: u64, to: u64, lag: *mut i32) -> u32;
     fn wg_members(table: *const u64, n_words: usize, ids: *const u64, n_ids: usize, answers: *mut u8, n_answers: usize) -> u32;
     fn wg_read_line(line: *const u8, n: usize, area: *mut u8, n_area: usize) -> u32;
     fn wg_write_line(kind: u64, first: u64, second: u64, id: u64, buffer: *mut u8, room: usize) -> usize;
@@ -36,6 +52,7 @@ pub const DELIVER: u64 = 6;
 pub const AGAIN: u64 = 7;
 pub const LOSE: u64 = 8;
 pub const LARGEST: u64 = 4_294_967_295;
+pub const FIRST: u32 = 4_294_967_200; // the first serial of every pair, so that some pass the last one
 
 #[derive(Clone, PartialEq)]
 pub struct State {
@@ -48,13 +65,27 @@ pub struct State {
 
 impl State {
     pub fn fresh(sites: usize, capacity: usize, slots: usize) -> State {
-        State {
+        let mut s = State {
             words: vec![0; sites * 2 * capacity],
             slots: vec![Parcel::default(); slots],
             ledger: Ledger::default(),
             sites: sites as u64,
             capacity: capacity as u64,
-        }
+        };
+        let refusal = unsafe {
+            wg_fresh(s.words.as_mut_ptr(), s.words.len(), s.slots.as_mut_ptr(), s.slots.len(), &mut s.ledger, s.sites, s.capacity, FIRST)
+        };
+        assert_eq!(refusal, 0);
+        s
+    }
+
+    // Lays a parcel into a free slot as a send would: counted, and with its pair's next serial.
+    pub fn under_way(&mut self, slot: usize, sender: u64, site: u64, id: u64, length: u64) {
+        let pair = &mut self.ledger.pairs[sender as usize][site as usize];
+        self.slots[slot] = Parcel { site, id, length, sender: sender as u32, serial: pair.next };
+        pair.next = pair.next.wrapping_add(1);
+        pair.unsent = 0;
+        self.ledger.sent += 1;
     }
 
     pub fn table(&self, site: usize) -> &[u64] {
@@ -82,6 +113,16 @@ impl State {
                     self.sites, self.capacity, kind, first, second, id, &mut value)
         };
         (refusal, value)
+    }
+
+    // The refusal and the lag.
+    pub fn lag(&mut self, from: u64, to: u64) -> (u32, i32) {
+        let mut lag = 0;
+        let refusal = unsafe {
+            wg_lag(self.words.as_mut_ptr(), self.words.len(), self.slots.as_mut_ptr(), self.slots.len(), &mut self.ledger,
+                   self.sites, self.capacity, from, to, &mut lag)
+        };
+        (refusal, lag)
     }
 
     pub fn burst(&mut self, asks: &[u64], answers: &mut [u64]) -> u32 {

@@ -1,9 +1,9 @@
 // The jobs of one call each.
 use crate::ffi::{self, State, ADD, DELIVER, LARGEST, MERGE, QUERY, REMOVE};
-use crate::{measure, plain, timed, Contender, Random, Row};
+use crate::{links, measure, plain, timed, Contender, Random, Row};
 use std::hint::black_box;
 
-const INPUTS: usize = 8;
+pub const INPUTS: usize = 8;
 
 pub fn rising_ids(r: &mut Random, count: usize, gap: u64) -> Vec<u64> {
     let mut id = r.below(gap);
@@ -25,7 +25,7 @@ pub fn lay(table: &mut [u64], ids: &[u64], r: &mut Random) {
 }
 
 // 16 sites with 2,048 places and `free` of them free at site 0, 1,024 slots of which half wait, the first for site 0.
-fn largest_state(r: &mut Random, free: usize) -> State {
+pub fn largest_state(r: &mut Random, free: usize) -> State {
     let mut s = State::fresh(16, 2048, 1024);
     for site in 0..16 {
         let ids = rising_ids(r, if site == 0 { 2048 - free } else { 2048 }, 1 << 40);
@@ -35,8 +35,7 @@ fn largest_state(r: &mut Random, free: usize) -> State {
         if k == 0 || r.below(2) == 0 {
             let site = if k == 0 { 0 } else { r.below(16) };
             let id = s.table(site as usize)[0] + 1; // an id between the first two of that table
-            s.slots[k] = ffi::Parcel { site, id, length: 1 + r.below(LARGEST) };
-            s.ledger.sent += 1;
+            s.under_way(k, (site + 1 + r.below(15)) % 16, site, id, 1 + r.below(LARGEST));
         }
     }
     s
@@ -70,14 +69,7 @@ fn updates(rows: &mut Vec<Row>, rounds: usize) {
         s.ledger = from.ledger;
     };
     let add = |s: &mut State, id: u64| plain::judge(black_box(s)) && plain::length_of(s.table(0), id) % 2 == 0 && plain::put(s.table_mut(0), id, 1);
-    let deliver = |s: &mut State| {
-        let p = s.slots[0];
-        let sound = plain::judge(black_box(s));
-        let length = plain::length_of(s.table(0), p.id).max(p.length);
-        s.slots[0] = Default::default();
-        s.ledger.absorbed += 1;
-        sound && plain::put(s.table_mut(0), p.id, length)
-    };
+    let deliver = |s: &mut State| plain::deliver(black_box(s), 0);
     let remove = |s: &mut State, id: u64| {
         let length = plain::length_of(s.table(0), id);
         plain::judge(black_box(s)) && (length % 2 == 0 || plain::put(s.table_mut(0), id, length + 1))
@@ -91,7 +83,7 @@ fn updates(rows: &mut Vec<Row>, rounds: usize) {
         put_back(&mut b[i], &before[i]);
         assert_eq!(a[i].step(DELIVER, 0, 0, 0).0, 0);
         assert!(deliver(&mut b[i]));
-        assert!(a[i].words == b[i].words);
+        assert!(a[i] == b[i]);
         put_back(&mut a[i], &before[i]);
         put_back(&mut b[i], &before[i]);
     }
@@ -252,6 +244,7 @@ fn reports(rows: &mut Vec<Row>, rounds: usize) {
 
 pub fn all(rows: &mut Vec<Row>, rounds: usize) {
     judging(rows, rounds);
+    links::all(rows, rounds);
     updates(rows, rounds);
     merging(rows, rounds, "merge of two tables that just fit (1,365 ids each, half of them common)", 683, 683, 682);
     merging(rows, rounds, "merge of two nearly equal tables (2,040 entries, 8 new)", 0, 8, 2040);

@@ -1,5 +1,7 @@
 // A run whose sets are maps of the standard library: the steps and refusals of the library in the plainest safe Rust, with nothing judged.
-use crate::ffi::{State, LARGEST};
+use crate::ffi::{State, FIRST, LARGEST};
+use crate::plain::order;
+use std::cmp::Ordering;
 use std::collections::{BTreeMap, HashMap};
 
 // The lengths of one site's ids.
@@ -47,6 +49,16 @@ struct Waiting {
     site: usize,
     id: u64,
     length: u64,
+    sender: usize,
+    serial: u32,
+}
+
+// What went from one site to another.
+#[derive(Clone, Copy, PartialEq)]
+struct Link {
+    next: u32,
+    sent: bool,
+    heard: Option<u32>,
 }
 
 #[derive(Clone, PartialEq)]
@@ -54,6 +66,7 @@ pub struct Kept<M, const SITES: usize, const SLOTS: usize, const CAPACITY: usize
     pub sites: [M; SITES],
     slots: [Option<Waiting>; SLOTS],
     pub counts: [u64; 4], // sent, copied, absorbed, lost
+    links: [[Link; SITES]; SITES],
 }
 
 fn raise(count: &mut u64) -> Result<(), u32> {
@@ -69,18 +82,26 @@ fn is_step(n: &[u64; 4]) -> bool {
 }
 
 impl<M: Lengths + Clone, const SITES: usize, const SLOTS: usize, const CAPACITY: usize> Kept<M, SITES, SLOTS, CAPACITY> {
-    pub fn fresh() -> Self {
-        Kept { sites: std::array::from_fn(|_| M::default()), slots: [None; SLOTS], counts: [0; 4] }
+    pub fn fresh(first: u32) -> Self {
+        let links = [[Link { next: first, sent: false, heard: None }; SITES]; SITES];
+        Kept { sites: std::array::from_fn(|_| M::default()), slots: [None; SLOTS], counts: [0; 4], links }
     }
 
     pub fn of(s: &State) -> Self {
-        let mut k = Self::fresh();
+        let mut k = Self::fresh(FIRST);
         for (site, map) in k.sites.iter_mut().enumerate() {
             let pairs = s.table(site).as_chunks::<2>().0;
             pairs.iter().filter(|pair| pair[1] != 0).for_each(|pair| map.put(pair[0], pair[1]));
         }
         for (slot, p) in k.slots.iter_mut().zip(&s.slots) {
-            *slot = (p.length != 0).then_some(Waiting { site: p.site as usize, id: p.id, length: p.length });
+            let waiting = Waiting { site: p.site as usize, id: p.id, length: p.length, sender: p.sender as usize, serial: p.serial };
+            *slot = (p.length != 0).then_some(waiting);
+        }
+        for from in 0..SITES {
+            for to in (0..SITES).filter(|to| *to != from) {
+                let p = &s.ledger.pairs[from][to];
+                k.links[from][to] = Link { next: p.next, sent: p.unsent == 0, heard: (p.unheard == 0).then_some(p.heard) };
+            }
         }
         k.counts = [s.ledger.sent, s.ledger.copied, s.ledger.absorbed, s.ledger.lost];
         k
@@ -128,7 +149,10 @@ impl<M: Lengths + Clone, const SITES: usize, const SLOTS: usize, const CAPACITY:
                 }
                 let slot = self.free()?;
                 raise(&mut self.counts[0])?;
-                self.slots[slot] = Some(Waiting { site: to, id: n[3], length });
+                let link = &mut self.links[from][to];
+                self.slots[slot] = Some(Waiting { site: to, id: n[3], length, sender: from, serial: link.next });
+                link.next = link.next.wrapping_add(1);
+                link.sent = true;
                 Ok(slot as u64)
             }
             5 => {
@@ -146,6 +170,11 @@ impl<M: Lengths + Clone, const SITES: usize, const SLOTS: usize, const CAPACITY:
             }
             6 => {
                 let p = self.at(n[1])?;
+                let link = &mut self.links[p.sender][p.site];
+                let newer = match link.heard {
+                    None => true,
+                    Some(heard) => order(p.serial, heard).ok_or(15u32)? == Ordering::Greater,
+                };
                 let map = &mut self.sites[p.site];
                 let now = map.length(p.id);
                 if now == 0 && map.count() == CAPACITY {
@@ -153,6 +182,9 @@ impl<M: Lengths + Clone, const SITES: usize, const SLOTS: usize, const CAPACITY:
                 }
                 raise(&mut self.counts[2])?;
                 map.put(p.id, now.max(p.length));
+                if newer {
+                    link.heard = Some(p.serial);
+                }
                 self.slots[n[1] as usize] = None;
                 Ok(now.max(p.length))
             }

@@ -1,6 +1,7 @@
 // What the library is measured against: the plainest safe Rust that does the same job.
-use crate::ffi::{Ledger, Parcel, State, LARGEST};
+use crate::ffi::{Ledger, Pair, Parcel, State, LARGEST};
 use crate::maps::Kept;
+use std::cmp::Ordering;
 use std::collections::{BTreeMap, HashMap};
 use std::io::Write;
 
@@ -30,11 +31,11 @@ fn sound_slots(slots: &[Parcel], sites: u64) -> Option<u64> {
     let mut waiting = 0;
     for p in slots {
         if p.length == 0 {
-            if p.site != 0 || p.id != 0 {
+            if p.site != 0 || p.id != 0 || p.sender != 0 || p.serial != 0 {
                 return None;
             }
         } else {
-            if p.length > LARGEST || p.site >= sites {
+            if p.length > LARGEST || p.site >= sites || p.sender as u64 >= sites || p.sender as u64 == p.site {
                 return None;
             }
             waiting += 1;
@@ -48,6 +49,12 @@ fn sound_ledger(l: &Ledger, waiting: u64) -> bool {
     each && l.sent + l.copied == l.absorbed + l.lost + waiting
 }
 
+fn sound_pairs(l: &Ledger, sites: usize) -> bool {
+    let rows = l.pairs[..sites].iter().enumerate();
+    rows.map(|(from, row)| (from, &row[..sites]))
+        .all(|(from, row)| row.iter().enumerate().all(|(to, p)| from == to || p.unheard == 0 || p.heard == 0))
+}
+
 pub fn judge(s: &State) -> bool {
     let n = 2 * s.capacity as usize;
     if s.sites < 1 || s.sites > 16 || s.capacity > 2048 || s.slots.len() > 1024 || s.words.len() != s.sites as usize * n {
@@ -58,13 +65,14 @@ pub fn judge(s: &State) -> bool {
     }
     match sound_slots(&s.slots, s.sites) {
         None => false,
-        Some(waiting) => sound_ledger(&s.ledger, waiting),
+        Some(waiting) => sound_ledger(&s.ledger, waiting) && sound_pairs(&s.ledger, s.sites as usize),
     }
 }
 
 pub fn read_once(s: &State) -> u64 {
     let words = s.words.iter().fold(0u64, |sum, w| sum.wrapping_add(*w));
-    s.slots.iter().fold(words, |sum, p| sum.wrapping_add(p.site).wrapping_add(p.id).wrapping_add(p.length))
+    let slots = s.slots.iter().fold(words, |sum, p| sum.wrapping_add(p.site).wrapping_add(p.id).wrapping_add(p.length).wrapping_add((p.sender ^ p.serial) as u64));
+    s.ledger.pairs.as_flattened().iter().fold(slots, |sum, p| sum.wrapping_add((p.heard ^ p.unheard) as u64))
 }
 
 // ---- one table ----
@@ -133,6 +141,57 @@ pub fn merge(target: &mut [u64], source: &[u64]) -> Option<u64> {
     }
     target[..2 * out.len()].copy_from_slice(out.as_flattened());
     Some(rose)
+}
+
+// ---- serials, and the steps that use them ----
+
+// RFC 1982; none where the two are half of all serials apart.
+pub fn order(a: u32, b: u32) -> Option<Ordering> {
+    match a.wrapping_sub(b) {
+        0 => Some(Ordering::Equal),
+        1..=0x7fff_ffff => Some(Ordering::Greater),
+        0x8000_0000 => None,
+        _ => Some(Ordering::Less),
+    }
+}
+
+// The steps judge the whole state first, as the library does; false or none where they are refused.
+pub fn send(s: &mut State, from: usize, to: usize, id: u64) -> Option<usize> {
+    let length = judge(s).then(|| length_of(s.table(from), id)).filter(|n| *n != 0)?;
+    let slot = s.slots.iter().position(|p| p.length == 0)?;
+    if s.ledger.sent == LARGEST {
+        return None;
+    }
+    s.under_way(slot, from as u64, to as u64, id, length);
+    Some(slot)
+}
+
+pub fn deliver(s: &mut State, slot: usize) -> bool {
+    let p = s.slots[slot];
+    if !judge(s) || p.length == 0 {
+        return false;
+    }
+    let pair = s.ledger.pairs[p.sender as usize][p.site as usize];
+    let newer = if pair.unheard != 0 { Some(Ordering::Greater) } else { order(p.serial, pair.heard) };
+    let length = length_of(s.table(p.site as usize), p.id).max(p.length);
+    if newer.is_none() || s.ledger.absorbed == LARGEST || !put(s.table_mut(p.site as usize), p.id, length) {
+        return false;
+    }
+    if newer == Some(Ordering::Greater) {
+        s.ledger.pairs[p.sender as usize][p.site as usize] = Pair { heard: p.serial, unheard: 0, ..pair };
+    }
+    s.slots[slot] = Parcel::default();
+    s.ledger.absorbed += 1;
+    true
+}
+
+pub fn lag(s: &State, from: usize, to: usize) -> Option<i32> {
+    let p = &s.ledger.pairs[from][to];
+    if !judge(s) || p.unsent != 0 || p.unheard != 0 {
+        return None;
+    }
+    let last = p.next.wrapping_sub(1);
+    order(p.heard, last).map(|_| p.heard.wrapping_sub(last) as i32)
 }
 
 // ---- membership ----
@@ -217,7 +276,7 @@ pub fn write_line(n: [u64; 4], mut buffer: &mut [u8]) -> usize {
 // ---- the report: three sites with 8 entries each, 8 slots ----
 
 pub fn report(input: &[u8]) -> Vec<u8> {
-    let mut k = Kept::<BTreeMap<u64, u64>, 3, 8, 8>::fresh();
+    let mut k = Kept::<BTreeMap<u64, u64>, 3, 8, 8>::fresh(0);
     let mut out = Vec::new();
     for (i, piece) in input.split_inclusive(|b| *b == 10).enumerate() {
         let step = piece.strip_suffix(b"\n").and_then(read_line);
