@@ -138,8 +138,9 @@ typedef struct {
 } wg_parcel;
 
 /* What went from one site to another. Serials go up by one with each accepted send, and after 4294967295 comes 0. Their order is that of
- * RFC 1982 with 32 bits: of two that are less than 2147483648 apart, the one that is reached by counting up is the newer; two that are exactly
- * 2147483648 apart have no order. A mark stands where it is not 0; the library writes 1 and 0. Sound: heard is 0 while unheard stands. */
+ * RFC 1982 with 32 bits: a serial is newer than another from which it is reached by counting up, past the wrap too, in 1 to 2147483647 steps; two
+ * that are exactly 2147483648 apart have no order. A mark stands where it is not 0; the library writes 1 and 0. Sound: heard is 0 while unheard
+ * stands. */
 typedef struct {
     uint32_t next;    /* the serial of the next parcel; the one before it was the last sent, unless nothing was */
     uint32_t heard;   /* the newest serial of those delivered */
@@ -149,7 +150,7 @@ typedef struct {
 
 /* Accepted steps send, again, deliver and lose, and what went between each two sites. Sound: each count at most WG_LENGTH_MAX,
  * sent + copied = absorbed + lost + occupied slots, and the pair of each two different sites of the run sound. The pair of a site with itself,
- * and one with a site that the run does not have, is never looked at and never written, by wg_fresh neither. */
+ * and one with a site that the run does not have, is never looked at and never written, not by wg_fresh either. */
 typedef struct {
     uint64_t sent, copied, absorbed, lost;
     wg_pair pairs[WG_SITES_MAX][WG_SITES_MAX]; /* [sender][destination], however many sites the run has */
@@ -239,8 +240,8 @@ uint32_t wg_check_line(uint64_t kind, uint64_t first, uint64_t second, uint64_t 
  * written, exactly when wg_check_line refuses. WG_LINE_MAX bytes are enough for every step. No line is empty. */
 size_t wg_write_line(uint64_t kind, uint64_t first, uint64_t second, uint64_t id, uint8_t *buffer, size_t room);
 
-/* Runs a text of step lines, each ended by byte 10, from a fresh state with 3 sites, capacity 8 and 8 slots, and writes the report to the
- * front of out: a line for each refused step (`line=L refused=R`) and each accepted query
+/* Runs a text of step lines, each ended by byte 10, from a fresh state with 3 sites, capacity 8, 8 slots and first serial 0, and writes the report
+ * to the front of out: a line for each refused step (`line=L refused=R`) and each accepted query
  * (`line=L node=N id=I length=K present=P`), then sent, copied, absorbed, lost and waiting, then `node=N held=H shown=S` for each site:
  * H entries in its table, S of them listed. *written is how many bytes that is; bytes behind it keep what they had.
  *
