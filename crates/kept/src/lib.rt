@@ -1,12 +1,15 @@
 // A small run kept by value: 48 words, 8 slots and a ledger, for programs that make the state themselves. Whoever calls these needs no proof by hand.
 use rules::Answer;
+use rules::Counts;
 use rules::Ledger;
+use rules::Pair;
 use rules::Parcel;
 use rules::Run;
 use rules::Step;
 ghost use mathlib.Core.Path.{_≡_};
 ghost use lib.ListN.{replicate};
-ghost use Rattle.rules.specs.meaning.Ledgers.{emptyLedger};
+ghost use Rattle.rules.specs.meaning.Links.{startPair};
+ghost use Rattle.rules.specs.meaning.Ledgers.{noCounts};
 ghost use Rattle.rules.specs.meaning.Parcels.{noParcel};
 ghost use Rattle.rules.specs.meaning.States.{lent};
 ghost use Rattle.rules.specs.meaning.Runs.{Stepped};
@@ -24,22 +27,34 @@ pub struct Moved {
     pub answer: Answer,
 }
 
-// A run to begin with: no id at any site, every slot free, no count.
-pub fn fresh_kept() -> Kept
-    ensures { λ r. ⌜ keptState r ≡ lent (replicate 48 0) (replicate 8 noParcel) emptyLedger ⌝ }
+// A run to begin with: no id at any site, every slot free, no count, and every link at the first serial.
+pub fn fresh_kept(first: u32) -> Kept
+    ensures { λ r. ⌜ keptState r ≡ lent (replicate 48 0) (replicate 8 noParcel) (record { counts = noCounts; pairs = replicate 256 (startPair first) }) ⌝ }
 {
     let words = [0u64; 48];
     let none = Parcel {
         site: 0,
         id: 0,
         length: 0,
+        sender: 0,
+        serial: 0,
     };
     let slots = [none; 8];
-    let ledger = Ledger {
+    let counts = Counts {
         sent: 0,
         copied: 0,
         absorbed: 0,
         lost: 0,
+    };
+    let begun = Pair {
+        next: first,
+        heard: 0,
+        unsent: 1,
+        unheard: 1,
+    };
+    let ledger = Ledger {
+        counts: counts,
+        pairs: [begun; 256],
     };
     Kept {
         words: words,

@@ -2,7 +2,7 @@
 use crate::pieces::write_count;
 use crate::pieces::write_pair;
 use parcels::is_free;
-use rules::Ledger;
+use rules::Counts;
 use rules::Parcel;
 use rules::ROOM_BESIDES;
 use table::held;
@@ -12,8 +12,7 @@ ghost use mathlib.Core.Path.{_≡_};
 ghost use lib.ListN.{length};
 ghost use Rattle.rules.specs.meaning.Table.{SoundTable};
 ghost use Rattle.rules.specs.meaning.Parcels.{waiting};
-ghost use Rattle.rules.specs.meaning.States.{lent, StateSound};
-ghost use Rattle.rules.specs.meaning.Reports.{reportRun, ledgerLines, siteLine, siteLines, endLines, endRoom};
+ghost use Rattle.rules.specs.meaning.Reports.{ledgerLines, siteLine, siteLines, ending, endRoom};
 ghost use Rattle.report.specs.Laid.{Laid};
 ghost use Rattle.report.specs.Said.{Sayable, Said};
 ghost use Rattle.report.specs.Tables.{ThreeTables};
@@ -35,14 +34,14 @@ fn count_waiting(slots: [Parcel; 8]) -> u64
 }
 
 // "then the ledger"
-fn write_ledger(out: &mut [u8], place: usize, ledger: Ledger, waiting: u64) -> usize
-    requires { ⌜ place + length (ledgerLines ledger waiting) ≤ length (now out) ⌝ }
-    ensures { λ r. ⌜ Laid (now (out .entry)) place (ledgerLines ledger waiting) r (now (out .exit)) ⌝ }
+fn write_ledger(out: &mut [u8], place: usize, counts: Counts, waiting: u64) -> usize
+    requires { ⌜ place + length (ledgerLines counts waiting) ≤ length (now out) ⌝ }
+    ensures { λ r. ⌜ Laid (now (out .entry)) place (ledgerLines counts waiting) r (now (out .exit)) ⌝ }
 {
-    let a = write_count(out, place, b"sent=", ledger.sent);
-    let b = write_count(out, a, b"copied=", ledger.copied);
-    let d = write_count(out, b, b"absorbed=", ledger.absorbed);
-    let e = write_count(out, d, b"lost=", ledger.lost);
+    let a = write_count(out, place, b"sent=", counts.sent);
+    let b = write_count(out, a, b"copied=", counts.copied);
+    let d = write_count(out, b, b"absorbed=", counts.absorbed);
+    let e = write_count(out, d, b"lost=", counts.lost);
     write_count(out, e, b"waiting=", waiting)
 }
 
@@ -78,12 +77,12 @@ fn write_ending(
     place: usize,
     words: [u64; 48],
     slots: [Parcel; 8],
-    ledger: Ledger,
+    counts: Counts,
 ) -> usize
-    requires { ⌜ StateSound reportRun (lent words slots ledger) × (place + length (endLines (lent words slots ledger)) ≤ length (now out)) ⌝ }
-    ensures { λ r. ⌜ Laid (now (out .entry)) place (endLines (lent words slots ledger)) r (now (out .exit)) ⌝ }
+    requires { ⌜ ThreeTables words × (place + length (ending words slots counts) ≤ length (now out)) ⌝ }
+    ensures { λ r. ⌜ Laid (now (out .entry)) place (ending words slots counts) r (now (out .exit)) ⌝ }
 {
-    let next = write_ledger(out, place, ledger, count_waiting(slots));
+    let next = write_ledger(out, place, counts, count_waiting(slots));
     write_sites(out, next, &words)
 }
 
@@ -93,15 +92,15 @@ pub(crate) fn say_ending(
     place: usize,
     words: [u64; 48],
     slots: [Parcel; 8],
-    ledger: Ledger,
+    counts: Counts,
 ) -> usize
-    requires { ⌜ StateSound reportRun (lent words slots ledger) × Sayable endRoom (now out) place (endLines (lent words slots ledger)) ⌝ }
-    ensures { λ r. ⌜ Said (now (out .entry)) place (endLines (lent words slots ledger)) r (now (out .exit)) ⌝ }
+    requires { ⌜ ThreeTables words × Sayable endRoom (now out) place (ending words slots counts) ⌝ }
+    ensures { λ r. ⌜ Said (now (out .entry)) place (ending words slots counts) r (now (out .exit)) ⌝ }
 {
     if out.len() > 0 {
-        return write_ending(out, place, words, slots, ledger);
+        return write_ending(out, place, words, slots, counts);
     }
     let mut aside = [0u8; ROOM_BESIDES];
-    let long = write_ending(&mut aside, 0, words, slots, ledger);
+    let long = write_ending(&mut aside, 0, words, slots, counts);
     place + long
 }

@@ -2,7 +2,9 @@
 use crate::ahead::next_line;
 use crate::ends::say_ending;
 use crate::said::say_line;
+use rules::Counts;
 use rules::Ledger;
+use rules::Pair;
 use rules::Parcel;
 use rules::Run;
 use sites::act;
@@ -26,14 +28,26 @@ pub(crate) fn say_report(input: &[u8], out: &mut [u8]) -> usize
         site: 0,
         id: 0,
         length: 0,
+        sender: 0,
+        serial: 0,
     };
-    let mut words = [0u64; 48];
-    let mut slots = [none; 8];
-    let mut ledger = Ledger {
+    let begun = Pair {
+        next: 0,
+        heard: 0,
+        unsent: 1,
+        unheard: 1,
+    };
+    let counts = Counts {
         sent: 0,
         copied: 0,
         absorbed: 0,
         lost: 0,
+    };
+    let mut words = [0u64; 48];
+    let mut slots = [none; 8];
+    let mut ledger = Ledger {
+        counts: counts,
+        pairs: [begun; 256],
     };
     let mut n: u64 = 1;
     let mut start: usize = 0;
@@ -47,5 +61,5 @@ pub(crate) fn say_report(input: &[u8], out: &mut [u8]) -> usize
         start = line.next;
         n += 1;
     }
-    say_ending(out, place, words, slots, ledger)
+    say_ending(out, place, words, slots, ledger.counts)
 }

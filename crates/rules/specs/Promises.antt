@@ -2,14 +2,16 @@
 -- definitions that the contracts cite, and proved in the module that its last line names. Nothing else stands here.
 -- Assumes nothing.
 use Prim.Native.Nat.{ℕ, suc, _+_, _*_, _/_, _%_, _^_, _≤_, _<_}
-use mathlib.Core.Bool.{true, _&&_, cond}
+use mathlib.Core.Bool.{true, false, _&&_, cond}
 use mathlib.Core.Path.{_≡_}
 use mathlib.Core.List.{List, _∷_, _++_}
 use lib.ListN.{length, getD}
 use lib.Dec.{eqb, ltb}
+use lib.IntN.{natAbs}
 use Rattle.rules.specs.declared.Run.{Run}
 use Rattle.rules.specs.declared.Answer.{Answer}
 use Rattle.rules.specs.declared.Reported.{Reported}
+use Rattle.rules.specs.declared.Pair.{Pair}
 use Rattle.rules.specs.declared.Step.{Step}
 use Rattle.rules.specs.declared.Step.the-variants.{Add, Remove, Query, Merge, Deliver}
 use Rattle.rules.specs.declared.Line.the-variants.{Numbers}
@@ -18,11 +20,14 @@ use Rattle.rules.specs.declared.Named.the-variants.{Is}
 use Rattle.rules.specs.meaning.Lengths.{M, listed, afterAdd, afterRemove, join}
 use Rattle.rules.specs.meaning.Table.{SoundTable, lengthOf, held, shown, countBelow, rises}
 use Rattle.rules.specs.meaning.Parcels.{waiting}
-use Rattle.rules.specs.meaning.Kinds.{isSend, isAgain, isDeliver, isLose}
-use Rattle.rules.specs.meaning.States.{State, tableAt, sightOf, parcelAt}
+use Rattle.rules.specs.meaning.Serials.{serials, largestSerial, half, nextSerial, isNewer, wrapped}
+use Rattle.rules.specs.meaning.Links.{noPair, linked, stands}
+use Rattle.rules.specs.meaning.Kinds.{isSend, isAgain, isDeliver, isLose, slotOf, linkOf}
+use Rattle.rules.specs.meaning.States.{State, lent, tableAt, sightOf, parcelAt}
 use Rattle.rules.specs.meaning.Steps.{siteIn}
 use Rattle.rules.specs.meaning.Runs.{refusalOf, valueOf, answerOf, after, freshRefusal, afterFresh, Stepped, Freshened}
-use Rattle.rules.specs.meaning.Histories.{ran, acceptedOf, absorbed, largest, samePairs, offered, distinct, lengthIn}
+use Rattle.rules.specs.meaning.Lags.{lastSent, lagAnswer}
+use Rattle.rules.specs.meaning.Histories.{ran, acceptedOf, pairIn, isSendOn, sentOn, serialsFrom, absorbed, largest, samePairs, offered, among, distinct, lengthIn}
 use Rattle.rules.specs.meaning.Lines.{textOf, namesStep, numbersOf}
 use Rattle.rules.specs.meaning.StepLines.{lineOf, stepOf, Fits}
 use Rattle.rules.specs.meaning.Calls.{namedAnswer, Called}
@@ -31,10 +36,17 @@ use Rattle.rules.specs.meaning.Members.{Answered}
 use Rattle.rules.specs.meaning.Writing.{Filled}
 use Rattle.rules.specs.meaning.Reports.{Told, Printed}
 use Rattle.rules.specs.laws.table.Counts as Counts
+use Rattle.rules.specs.laws.Serials as Serials
+use Rattle.rules.specs.laws.Serials.{Stand}
 use Rattle.rules.specs.laws.run.Steps as Steps
+use Rattle.rules.specs.laws.run.Links.{OffRows}
+use Rattle.rules.specs.laws.run.Reads as Reads
+use Rattle.rules.specs.laws.run.Reads.{SameLinks}
+use Rattle.rules.specs.laws.run.Lags as Lags
 use Rattle.rules.specs.laws.history.Figure4 as Figure4
 use Rattle.rules.specs.laws.history.Rising as Rising
 use Rattle.rules.specs.laws.history.Counting as Counting
+use Rattle.rules.specs.laws.history.Links as Links
 use Rattle.rules.specs.laws.history.Absorbing as Absorbing
 use Rattle.rules.specs.laws.history.Room as Room
 use Rattle.rules.specs.laws.line.Lines as Lines
@@ -149,9 +161,55 @@ module _ (run : Run) (first : ℕ) (s : State) (fresh : freshRefusal run (length
       → distinct (offered run start k (before ++ (step ∷ rest))) ≤ run .capacity → refusalOf run (ran run start before) step ≡ 8 → ⊥
   room-suffices = Room.room-suffices run first s fresh
 
+  -- ---- request 2: the links of the run, in a ledger of 256 entries and with a first serial of 32 bits, as their types have it
+  module _ (fits : first ≤ largestSerial) (whole : length (s .ledger .pairs) ≡ 256) (a b : ℕ) (la : a < run .sites) (lb : b < run .sites) (d : a ≡ b → ⊥) where
+    -- "each ordered pair of different sites starts at one first serial .. and goes up by one for each accepted send, wrapping after 4,294,967,295"
+    pub next-serial-counts-the-sends : (steps : List Step) → pairIn (ran run start steps) a b .next ≡ (first + acceptedOf (isSendOn a b) run start steps) % serials
+    next-serial-counts-the-sends = Links.next-is-counted run first s fresh fits whole a b la lb d
+
+    -- so the serials that go out are those from the first on, in order
+    pub serials-go-out-in-order : (steps : List Step) → sentOn run start a b steps ≡ serialsFrom first (acceptedOf (isSendOn a b) run start steps)
+    serials-go-out-in-order = Links.sent-in-order run first s fresh fits whole a b la lb d
+
+    -- "with one mark for nothing sent": it stands until the first of them
+    pub unsent-until-sent : (steps : List Step) → pairIn (ran run start steps) a b .unsent ≡ cond (eqb (acceptedOf (isSendOn a b) run start steps) 0) 1 0
+    unsent-until-sent = Links.unsent-until-sent run first s fresh fits whole a b la lb d
+
+    -- "and the newest one heard": once something was heard, it is a serial that went out on this link in this run
+    pub heard-was-sent : (steps : List Step) → stands (pairIn (ran run start steps) a b .unheard) ≡ false
+        → among (pairIn (ran run start steps) a b .heard) (sentOn run start a b steps) ≡ true
+    heard-was-sent = Links.heard-was-sent run first s fresh fits whole a b la lb d
+
 -- "It never falls": at no step, in no state
 pub never-falls : (run : Run) (s : State) (step : Step) (k e : ℕ) → lengthOf (tableAt run (s .words) k) e ≤ lengthOf (tableAt run (after run s step .words) k) e
 never-falls = Absorbing.never-falls
+
+-- ---- request 2
+-- "Order is that of RFC 1982 with 32 bits": of two serials the first is newer, the second is, they are the same, or they have no order, and only one of these
+pub serials-stand-one-way : (a b : ℕ) → a ≤ largestSerial → b ≤ largestSerial → Stand a b
+serials-stand-one-way = Serials.stand
+
+-- the next serial is newer, also where it wraps
+pub next-serial-is-newer : (n : ℕ) → n ≤ largestSerial → isNewer (nextSerial n) n ≡ true
+next-serial-is-newer = Serials.next-newer
+
+-- "A new query gives the lag as a signed number, the newest heard minus the last sent, from −2,147,483,647 to 2,147,483,647": accepted, it leads from the last
+-- sent to the newest heard
+pub lag-leads-from-sent-to-heard : (run : Run) (s : State) (from to : ℕ) → lagAnswer run s from to .refusal ≡ 0 → pairIn s from to .heard ≤ largestSerial
+    → (natAbs (lagAnswer run s from to .lag) < half) × ((lastSent (pairIn s from to) + wrapped (lagAnswer run s from to .lag)) % serials ≡ pairIn s from to .heard)
+lag-leads-from-sent-to-heard = Lags.lag-leads
+
+-- "No other pair is read, judged or written": where two ledgers have the same counts, and the same entry for each ordered pair of different sites of the run,
+-- every step and every query is answered alike; a step sets no entry but that of its link, and a fresh start those of the run's links
+pub other-pairs-are-not-read : (run : Run) (s : State) (qs : List Pair) → SameLinks (run .sites) (s .ledger .pairs) qs
+    → ((step : Step) → answerOf run s step ≡ answerOf run (lent (s .words) (s .slots) (record { counts = s .ledger .counts; pairs = qs })) step)
+    × ((from to : ℕ) → lagAnswer run s from to ≡ lagAnswer run (lent (s .words) (s .slots) (record { counts = s .ledger .counts; pairs = qs })) from to)
+other-pairs-are-not-read run s qs same = (Reads.answered-alike run s qs same, Reads.lagged-alike run s qs same)
+
+pub other-pairs-are-not-written : (run : Run) (s : State) (i : ℕ)
+    → ((step : Step) → (i ≡ linkOf (run .sites) (parcelAt s (slotOf step)) step → ⊥) → getD (after run s step .ledger .pairs) i noPair ≡ getD (s .ledger .pairs) i noPair)
+    × ((first : ℕ) → OffRows i (linked (run .sites)) (linked (run .sites)) → getD (afterFresh run first s .ledger .pairs) i noPair ≡ getD (s .ledger .pairs) i noPair)
+other-pairs-are-not-written run s i = (λ step ne. Reads.only-named-link run s step i ne, λ first off. Reads.fresh-leaves run first s i off)
 
 -- ---- a burst, many steps in one call with the state judged once, is its steps one by one: the state that it leaves is the one after them, and the
 -- answer to each ask, in its two places, is that of the step in the state after the asks before it. So what is promised of a list of steps is promised

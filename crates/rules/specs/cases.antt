@@ -5,3 +5,4 @@ pub mod Sample
 pub mod Room
 pub mod Report
 pub mod Burst
+pub mod Serials

@@ -25,7 +25,7 @@ use Rattle.rules.specs.meaning.Number.{upTo, digits, digitOf, digitRun, 
 use Rattle.rules.specs.meaning.Lines.{lead, field, textOf, namesStep, firstOf, kindOf, readField, numbersOf}
 use Rattle.rules.specs.meaning.StepLines.{stepFor, stepIn, lineOf, stepOf}
 use Rattle.rules.specs.meaning.Calls.{namedAfter}
-use Rattle.rules.specs.meaning.Reports.{reportStart, refusedLine, queryLine, ledgerLines, siteLine, siteLines, endLines, acceptedLine, saidOf, lastPiece, reportFrom, reportOf, inputLimit, reportRefusal, printedOf}
+use Rattle.rules.specs.meaning.Reports.{reportStart, refusedLine, queryLine, ledgerLines, siteLine, siteLines, ending, acceptedLine, saidOf, lastPiece, reportFrom, reportOf, inputLimit, reportRefusal, printedOf}
 use Rattle.rules.specs.laws.report.Fits.{report-over, room-taken}
 use Rattle.rules.specs.laws.report.Pieces.{unbroken, joined, allUnbroken, piecesFrom, report-of-pieces}
 use Rattle.rules.specs.laws.report.Steps.{linesOf, fits, allFit, steps-fit, stepsFrom, report-of-steps}
@@ -55,7 +55,7 @@ sample-fits = refl
 
 -- what those steps say
 sample-said : stepsFrom 1 reportStart sampleSteps ≡ sampleOutput
-unfolding stepsFrom listed afterAdd afterRemove unused soundFrom lengthOf held shown push withLength raised heldWith merged newIds rises raiseRefusal raiseTable removeRefusal removeTable mergeRefusal mergeTable isFree isOccupied slotsSound waiting lowestFree countsSound oneMore raisedIf tableAt withTable sizesRight tablesSound allSound slotOf numbers firstGiven refusalIn effect refusalOf valueOf after linkOf linkBetween pairSound overRow overRows linksSound movesOn heardPair incomparable nextSerial isNewer ahead isOrdered digits upTo refusedLine queryLine ledgerLines siteLine siteLines endLines acceptedLine saidOf
+unfolding stepsFrom listed afterAdd afterRemove unused soundFrom lengthOf held shown push withLength raised heldWith merged newIds rises raiseRefusal raiseTable removeRefusal removeTable mergeRefusal mergeTable isFree isOccupied slotsSound waiting lowestFree countsSound oneMore raisedIf tableAt withTable sizesRight tablesSound allSound slotOf numbers firstGiven refusalIn effect refusalOf valueOf after linkOf linkBetween pairSound overRow overRows linksSound movesOn heardPair incomparable nextSerial isNewer ahead isOrdered digits upTo refusedLine queryLine ledgerLines siteLine siteLines ending acceptedLine saidOf
 sample-said = refl
 
 -- "Whole output": the report of the sample's input is the sample's output, byte for byte
@@ -89,7 +89,7 @@ pub record ReportCases : Type 0 where
       ++ ascii "sent=1\ncopied=0\nabsorbed=0\nlost=0\nwaiting=1\nnode=0 held=1 shown=1\nnode=1 held=0 shown=0\nnode=2 held=0 shown=0\n"
 
 pub report-cases : ReportCases
-unfolding unbroken joined allUnbroken piecesFrom listed afterAdd afterRemove unused soundFrom lengthOf held shown push withLength raised heldWith merged newIds rises raiseRefusal raiseTable removeRefusal removeTable mergeRefusal mergeTable isFree isOccupied slotsSound waiting lowestFree countsSound oneMore raisedIf tableAt withTable sizesRight tablesSound allSound slotOf numbers firstGiven refusalIn effect refusalOf valueOf after linkOf linkBetween pairSound overRow overRows linksSound movesOn heardPair incomparable nextSerial isNewer ahead isOrdered behind upTo digits digitOf digitRun fair judged readNumber lead namesStep firstOf kindOf readField numbersOf stepFor stepIn stepOf refusedLine queryLine ledgerLines siteLine siteLines endLines acceptedLine saidOf namedAfter lastPiece
+unfolding unbroken joined allUnbroken piecesFrom listed afterAdd afterRemove unused soundFrom lengthOf held shown push withLength raised heldWith merged newIds rises raiseRefusal raiseTable removeRefusal removeTable mergeRefusal mergeTable isFree isOccupied slotsSound waiting lowestFree countsSound oneMore raisedIf tableAt withTable sizesRight tablesSound allSound slotOf numbers firstGiven refusalIn effect refusalOf valueOf after linkOf linkBetween pairSound overRow overRows linksSound movesOn heardPair incomparable nextSerial isNewer ahead isOrdered behind upTo digits digitOf digitRun fair judged readNumber lead namesStep firstOf kindOf readField numbersOf stepFor stepIn stepOf refusedLine queryLine ledgerLines siteLine siteLines ending acceptedLine saidOf namedAfter lastPiece
 report-cases = record {
   nothing = report-of-pieces [] [] refl refl;
   empty-line = report-of-pieces ([] ∷ []) [] refl refl;
@@ -112,7 +112,7 @@ pub record LimitCases : Type 0 where
   pub a-byte-short : reportRefusal [] 109 ≡ 13
 
 pub limit-cases : LimitCases
-unfolding firstGiven reportRefusal reportOf reportFrom lastPiece endLines ledgerLines siteLines siteLine digits upTo waiting isFree listed held shown tableAt
+unfolding firstGiven reportRefusal reportOf reportFrom lastPiece ending ledgerLines siteLines siteLine digits upTo waiting isFree listed held shown tableAt
 limit-cases = record { just-fits = refl; a-byte-short = refl }
 
 -- "An input over 32,768 bytes prints only `refused=12`", as a line

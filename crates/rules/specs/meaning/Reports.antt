@@ -7,6 +7,7 @@ use mathlib.Core.List.{List, [], _∷_, _++_}
 use lib.ListN.{length, replicate}
 use lib.Dec.{ltb, eqb}
 use Rattle.rules.specs.declared.Run.{Run}
+use Rattle.rules.specs.declared.Parcel.{Parcel}
 use Rattle.rules.specs.declared.Counts.{Counts}
 use Rattle.rules.specs.declared.Ledger.{Ledger}
 use Rattle.rules.specs.declared.Step.{Step}
@@ -76,9 +77,12 @@ unfoldable pub siteLines : ℕ → ℕ → List ℕ → List ℕ
 siteLines zero k ws = []
 siteLines (suc n) k ws = siteLine k (tableAt reportRun ws k) ++ siteLines n (suc k) ws
 
--- what stands at the end of every report
-unfoldable pub endLines : State → List ℕ
-endLines s = ledgerLines (s .ledger .counts) (waiting (s .slots)) ++ siteLines (reportRun .sites) 0 (s .words)
+-- what stands at the end of every report: of the entries of links it has no line
+unfoldable pub ending : List ℕ → List Parcel → Counts → List ℕ
+ending ws ss c = ledgerLines c (waiting ss) ++ siteLines (reportRun .sites) 0 ws
+
+abbrev pub endLines : State → List ℕ
+endLines s = ending (s .words) (s .slots) (s .ledger .counts)
 
 -- ---- what each line of the input adds to the report; what it does to the state is that of a step by its numbers
 -- an accepted step says nothing, unless it is a query

@@ -19,7 +19,7 @@ use Rattle.rules.specs.meaning.Number.{digits}
 use Rattle.rules.specs.laws.run.Owed.{given-numbered}
 use Rattle.rules.specs.laws.run.Rows.{owed}
 use Rattle.rules.specs.laws.line.Numbers.{below, by-test, one-digit, more-digits, digits-length}
-use Rattle.rules.specs.meaning.Reports.{reportRun, refusedLine, queryLine, ledgerLines, siteLine, siteLines, endLines, endRoom}
+use Rattle.rules.specs.meaning.Reports.{reportRun, refusedLine, queryLine, ledgerLines, siteLine, siteLines, ending, endLines, endRoom}
 
 -- ---- a number below 10 ^ k has at most k digits
 pub digits-within : (k n : ℕ) → n < 10 ^ suc k → n < 2 ^ 64 → length (digits n) ≤ suc k
@@ -112,7 +112,7 @@ sites-within (suc n) k ws p =
 
 -- the end of a report: the ledger and the sites, 205 bytes at most
 pub end-within : (s : State) → length (endLines s) ≤ endRoom
-unfolding endLines
+unfolding ending
 end-within s =
     let a : length (siteLines 3 0 (s .words)) ≤ 22 * 3 = sites-within 3 0 (s .words) (omega arith) in
     simp (length-append) (omega (arith, ledger-within (s .ledger .counts) (waiting (s .slots))))

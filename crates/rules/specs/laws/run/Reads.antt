@@ -1,7 +1,7 @@
 -- "No other pair is read, judged or written": other than the ordered pairs of two different sites of the run. What a step answers, and what is judged, goes by
 -- the entries of the links; a step sets none but that of its own link, and a fresh start those of the links.
 -- Assumes nothing.
-use Prim.Native.Nat.{ℕ, _+_, _*_, _<_, _≤_, min}
+use Prim.Native.Nat.{ℕ, zero, suc, _+_, _*_, _<_, _≤_, min}
 use native.Mathlib.Omega.{arith}
 use mathlib.Core.Bool.{Bool, true, false, _&&_, not, cond, false≢true}
 use mathlib.Core.Path.{_≡_, refl, sym, ap, _∙_}
@@ -21,10 +21,10 @@ use Rattle.rules.specs.meaning.Links.{place, noLink, noPair, pairAt, lin
 use Rattle.rules.specs.meaning.Kinds.{isSend, isDeliver, numbers, linkOf}
 use Rattle.rules.specs.meaning.States.{State, lent, sightOf}
 use Rattle.rules.specs.meaning.Steps.{effect}
-use Rattle.rules.specs.meaning.Runs.{refusalIn, refusalOf, valueOf, answerOf, after, effectOf}
+use Rattle.rules.specs.meaning.Runs.{refusalIn, refusalOf, valueOf, answerOf, after, effectOf, stateBy, freshRefusal, empty, afterFresh}
 use Rattle.rules.specs.meaning.Lags.{lagAnswer}
 use Rattle.rules.specs.laws.run.Steps.{after-keeps}
-use Rattle.rules.specs.laws.run.Links.{sound-links, links-sound}
+use Rattle.rules.specs.laws.run.Links.{sound-links, links-sound, OffRows, begun-other}
 use Rattle.rules.specs.laws.run.Owed.{named}
 use Rattle.rules.specs.laws.run.Rows.{owed}
 
@@ -97,3 +97,12 @@ pub only-named-link : (run : Run) (s : State) (step : Step) (i : ℕ) → (i ≡
     → getD (after run s step .ledger .pairs) i noPair ≡ getD (s .ledger .pairs) i noPair
 only-named-link run s step i ne = after-keeps run s step (λ u. getD (u .ledger .pairs) i noPair ≡ getD (s .ledger .pairs) i noPair) refl
     (λ a. getD-set-other (s .ledger .pairs) (effectOf run s step .post .link) i (effectOf run s step .post .pair) noPair (rw (owed run s step .parcels .link) ne))
+
+-- and a fresh start none but those of the run's links
+pub fresh-leaves : (run : Run) (first : ℕ) (s : State) (i : ℕ) → OffRows i (linked (run .sites)) (linked (run .sites)) → getD (afterFresh run first s .ledger .pairs) i noPair ≡ getD (s .ledger .pairs) i noPair
+unfolding afterFresh
+fresh-leaves run first s i off = go (freshRefusal run (length (s .words)) (length (s .slots)))
+  where
+    go : (r : ℕ) → getD (stateBy r s (empty run first s) .ledger .pairs) i noPair ≡ getD (s .ledger .pairs) i noPair
+    go zero = begun-other (run .sites) first (s .ledger .pairs) i off
+    go (suc r) = refl
