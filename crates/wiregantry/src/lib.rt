@@ -15,7 +15,7 @@ ghost use Rattle.rules.specs.meaning.States.{lent};
 ghost use Rattle.rules.specs.meaning.Runs.{Freshened};
 ghost use Rattle.rules.specs.meaning.Writing.{checkOf, Filled};
 
-// A fresh run of these sizes: "every word, slot and counter 0".
+// A fresh run of these sizes: "every word, slot and counter 0", and each link at the first serial.
 #[no_mangle]
 pub extern "C" fn wg_fresh(
     words: &mut [u64],
@@ -23,14 +23,15 @@ pub extern "C" fn wg_fresh(
     ledger: &mut Ledger,
     sites: u64,
     capacity: u64,
+    first: u32,
 ) -> u32
-    ensures { λ r. ⌜ Freshened (record { sites = sites; capacity = capacity }) (lent (now (words .entry)) (now (slots .entry)) (now (ledger .entry))) r (lent (now (words .exit)) (now (slots .exit)) (now (ledger .exit))) ⌝ }
+    ensures { λ r. ⌜ Freshened (record { sites = sites; capacity = capacity }) first (lent (now (words .entry)) (now (slots .entry)) (now (ledger .entry))) r (lent (now (words .exit)) (now (slots .exit)) (now (ledger .exit))) ⌝ }
 {
     let run = Run {
         sites: sites,
         capacity: capacity,
     };
-    sites::fresh(words, slots, ledger, run)
+    sites::fresh(words, slots, ledger, run, first)
 }
 
 // One step of a run, by the four numbers of a line. Numbers that name no step are refused before anything that is lent is looked at.
