@@ -9,6 +9,7 @@ ghost use mathlib.Core.Path.{_≡_};
 ghost use Rattle.rules.specs.meaning.Area.{readRefusal, areaAfter};
 ghost use Rattle.rules.specs.meaning.Bursts.{Handled};
 ghost use Rattle.rules.specs.meaning.Calls.{Called};
+ghost use Rattle.rules.specs.meaning.Lags.{lagAnswer};
 ghost use Rattle.rules.specs.meaning.Members.{Answered};
 ghost use Rattle.rules.specs.meaning.Reports.{Told};
 ghost use Rattle.rules.specs.meaning.States.{lent};
@@ -60,6 +61,29 @@ pub extern "C" fn wg_step(
     };
     let answer = sites::step(words, slots, ledger, run, step);
     *value = answer.value;
+    answer.refusal
+}
+
+// How far the newest serial heard on the link from one site to another is from the last one sent there. The run is only read.
+#[no_mangle]
+pub extern "C" fn wg_lag(
+    words: &[u64],
+    slots: &[Parcel],
+    ledger: &Ledger,
+    sites: u64,
+    capacity: u64,
+    from: u64,
+    to: u64,
+    lag: &mut i32,
+) -> u32
+    ensures { λ r. ⌜ (r ≡ lagAnswer (record { sites = sites; capacity = capacity }) (lent (now (words .entry)) (now (slots .entry)) (now (ledger .entry))) from to .refusal) × (now (lag .exit) ≡ lagAnswer (record { sites = sites; capacity = capacity }) (lent (now (words .entry)) (now (slots .entry)) (now (ledger .entry))) from to .lag) ⌝ }
+{
+    let run = Run {
+        sites: sites,
+        capacity: capacity,
+    };
+    let answer = sites::lag(words, slots, ledger, run, from, to);
+    *lag = answer.lag;
     answer.refusal
 }
 
