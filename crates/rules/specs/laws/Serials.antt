@@ -1,12 +1,12 @@
 -- The laws of serials: of two, exactly one of four things holds, the first is newer, the second is, they are the same, or they have no order; the next
 -- serial is newer, also where it wraps; the lag's bounds, and that it leads from the last sent to the newest heard.
 -- Assumes nothing.
-use Prim.Native.Nat.{ℕ, zero, suc, _+_, _-_, _%_, _<_, _≤_}
+use Prim.Native.Nat.{ℕ, _+_, _-_, _%_, _<_, _≤_}
 use native.Mathlib.Omega.{arith}
 use mathlib.Core.Path.{_≡_, refl, sym, ap, _∙_}
-use mathlib.Core.Bool.{Bool, true, false, _&&_, _||_, not, cond, or-false}
+use mathlib.Core.Bool.{Bool, true, false, _&&_, not, cond, or-false}
 use lib.Dec.{ltb, eqb}
-use lib.IntN.{ℤ, pos, negsuc, natAbs}
+use lib.IntN.{pos, negsuc, natAbs}
 use borrow.Author.Tests.{lt-ltb, le-ltb, eq-eqb, ne-eqb, ltb-true, ltb-false, eqb-true, eqb-false, not-true}
 use Rattle.rules.specs.meaning.Serials.{serials, largestSerial, half, nextSerial, serialBefore, isNewer, ahead, isOrdered, lagOf, wrapped}
 

@@ -3,20 +3,20 @@
 -- Assumes nothing.
 use Prim.Native.Nat.{ℕ, zero, suc, _+_, _%_, _<_, _≤_}
 use native.Mathlib.Omega.{arith}
-use mathlib.Core.Bool.{Bool, true, false, _&&_, _||_, not, cond, false≢true}
+use mathlib.Core.Bool.{Bool, true, false, _&&_, not, cond, false≢true}
 use mathlib.Core.Path.{_≡_, refl, sym, ap, subst, _∙_}
 use mathlib.Core.List.{List, [], _∷_, _++_, append-assoc, append-nil}
 use lib.ListN.{length, getD, set, length-set}
 use lib.Seq.{getD-set-same, getD-set-other}
 use lib.Dec.{ltb, eqb}
-use borrow.Author.Tests.{eq-eqb, ne-eqb, ltb-true, eqb-true, eqb-false, not-true}
+use borrow.Author.Tests.{eq-eqb, ne-eqb, ltb-true, eqb-true, eqb-false}
 use Rattle.rules.specs.declared.Run.{Run}
 use Rattle.rules.specs.declared.Parcel.{Parcel}
 use Rattle.rules.specs.declared.Pair.{Pair}
 use Rattle.rules.specs.declared.Step.{Step}
 use Rattle.rules.specs.meaning.Serials.{serials, largestSerial, nextSerial}
 use Rattle.rules.specs.meaning.Parcels.{noParcel}
-use Rattle.rules.specs.meaning.Links.{place, noLink, noPair, pairAt, linked, linkBetween, stands, startPair, sentPair, movesOn, heardPair}
+use Rattle.rules.specs.meaning.Links.{place, noLink, noPair, linked, linkBetween, stands, startPair, sentPair, movesOn, heardPair}
 use Rattle.rules.specs.meaning.Kinds.{numbers, isSend, isAgain, isDeliver, slotOf, linkOf}
 use Rattle.rules.specs.meaning.States.{State, parcelAt}
 use Rattle.rules.specs.meaning.Runs.{refusalOf, moved, stateBy, after, freshRefusal, afterFresh, effectOf}

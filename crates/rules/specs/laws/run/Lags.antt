@@ -3,22 +3,21 @@
 -- Assumes nothing.
 use Prim.Native.Nat.{ℕ, zero, suc, _+_, _%_, _<_, _≤_}
 use native.Mathlib.Omega.{arith}
-use mathlib.Core.Bool.{true, false}
+use mathlib.Core.Bool.{true}
 use mathlib.Core.Path.{_≡_, refl, sym, ap, _∙_}
-use mathlib.Core.List.{List, _++_}
+use mathlib.Core.List.{_++_}
 use lib.ListN.{length, getD}
-use lib.IntN.{ℤ, pos, natAbs}
+use lib.IntN.{pos, natAbs}
 use borrow.Author.Tests.{leb-false, eqb-false, not-false}
 use Rattle.rules.specs.declared.Run.{Run}
 use Rattle.rules.specs.declared.Pair.{Pair}
-use Rattle.rules.specs.declared.Lag.{Lag}
 use Rattle.rules.specs.meaning.Serials.{serials, largestSerial, half, serialBefore, isOrdered, lagOf, wrapped}
 use Rattle.rules.specs.meaning.Links.{noPair, linkBetween}
 use Rattle.rules.specs.meaning.Parcels.{noParcel}
 use Rattle.rules.specs.meaning.Refusals.{firstGiven}
-use Rattle.rules.specs.meaning.States.{State, sightWith, sizesRight}
+use Rattle.rules.specs.meaning.States.{State, sightWith}
 use Rattle.rules.specs.meaning.Runs.{judgeTests}
-use Rattle.rules.specs.meaning.Lags.{silent, lastSent, lagUndefined, lagTests, lagGiven, lagIn, lagAnswer}
+use Rattle.rules.specs.meaning.Lags.{lastSent, lagUndefined, lagTests, lagGiven, lagIn, lagAnswer}
 use Rattle.rules.specs.meaning.Histories.{pairIn}
 use Rattle.rules.specs.laws.Serials.{lag-adds, lag-bounds}
 use Rattle.rules.specs.laws.run.Steps.{pass, neither}

@@ -1,17 +1,17 @@
 -- The laws of the links: a sound ledger is one in which the entry of each link is sound, both ways; what a step and a fresh start leave of the entries.
 -- Assumes nothing.
-use Prim.Native.Nat.{ℕ, zero, suc, _<_, _≤_, min}
+use Prim.Native.Nat.{ℕ, zero, suc, _<_, _≤_}
 use native.Mathlib.Omega.{arith}
-use mathlib.Core.Path.{_≡_, refl, sym, ap, subst, _∙_}
-use mathlib.Core.Bool.{Bool, true, false, _&&_, not, cond}
+use mathlib.Core.Path.{_≡_, refl, sym, subst, _∙_}
+use mathlib.Core.Bool.{Bool, true, false, cond}
 use mathlib.Core.List.{List, [], _∷_}
 use lib.ListN.{length, getD, set, length-set}
 use lib.Seq.{getD-set-same, getD-set-other}
-use lib.Dec.{ltb, eqb}
-use borrow.Author.Tests.{lt-ltb, ne-eqb, ltb-true, eqb-true, eqb-false, not-true}
+use lib.Dec.{eqb}
+use borrow.Author.Tests.{lt-ltb, ne-eqb, eqb-true, eqb-false}
 use Rattle.rules.specs.declared.Pair.{Pair}
 use Rattle.rules.specs.laws.table.View.{parts}
-use Rattle.rules.specs.meaning.Links.{place, noLink, noPair, pairAt, linked, linkBetween, pairSound, startPair, movesOn, heardPair, judged, begun, overRow, overRows, linksSound, linksBegun}
+use Rattle.rules.specs.meaning.Links.{place, noPair, pairAt, linked, linkBetween, pairSound, startPair, movesOn, heardPair, judged, begun, overRow, overRows, linksSound, linksBegun}
 
 -- ---- the place of a link
 -- two different sites of the run have a link

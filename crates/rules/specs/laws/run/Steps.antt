@@ -19,7 +19,6 @@ use Rattle.rules.specs.meaning.Lengths.{M}
 use Rattle.rules.specs.meaning.Table.{lengthOf}
 use Rattle.rules.specs.laws.table.View.{parts}
 use Rattle.rules.specs.meaning.Parcels.{noParcel, isOccupied, slotsSound, waiting, lowestFree}
-use Rattle.rules.specs.meaning.Links.{incomparable}
 use Rattle.rules.specs.meaning.Ledgers.{countsSound}
 use Rattle.rules.specs.meaning.States.{State, width, tableAt, tablesSound, allSound, sightOf, StateSound}
 use Rattle.rules.specs.meaning.Kinds.{slotOf, numbers}

@@ -1,6 +1,6 @@
 -- `sites::lags::own_refusal`: by its tests in order.
 -- Assumes nothing.
-use mathlib.Core.Path.{_≡_, sym, _∙_}
+use mathlib.Core.Path.{sym, _∙_}
 use mathlib.Core.Bool.{true, false}
 use Rattle.sites.proofs.Lagging.{lag-from, lag-to, lag-same, lag-silent, lag-by-order}
 use borrow.Author.Needs.{needs}
