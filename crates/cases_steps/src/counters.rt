@@ -19,7 +19,7 @@ use rules::M;
 fn only_lost_can_rise() {
     text(b"sent, copied and absorbed at M: 3 sites, capacity 8\n");
     let run = three_sites();
-    let s = with_entry(fresh_kept(), 0, 7, 1);
+    let s = with_entry(fresh_kept(0), 0, 7, 1);
     let s = with_parcel(s, 0, parcel_to(1, 7, 1));
     let s = with_ledger(s, M, M, M, M - 1);
     let s = send(s, run, 0, 1, 7);
@@ -35,7 +35,7 @@ fn only_lost_can_rise() {
 fn only_absorbed_can_rise() {
     text(b"sent, copied and lost at M: 3 sites, capacity 8\n");
     let run = three_sites();
-    let s = with_parcel(fresh_kept(), 0, parcel_to(1, 7, 1));
+    let s = with_parcel(fresh_kept(0), 0, parcel_to(1, 7, 1));
     let s = with_ledger(s, M, M, M - 1, M);
     let s = lose(s, run, 0);
     let s = deliver(s, run, 0);
@@ -46,7 +46,7 @@ fn only_absorbed_can_rise() {
 fn the_last_rise() {
     text(b"sent and absorbed at M - 1: 3 sites, capacity 8\n");
     let run = three_sites();
-    let s = with_entry(fresh_kept(), 0, 7, 1);
+    let s = with_entry(fresh_kept(0), 0, 7, 1);
     let s = with_ledger(s, M - 1, 0, M - 1, 0);
     let s = send(s, run, 0, 1, 7);
     let s = deliver(s, run, 0);
@@ -57,7 +57,7 @@ fn the_last_rise() {
 fn room_before_counter() {
     text(b"8 before 10 on a delivery: site 1 full, absorbed at M; 12 sites, capacity 2\n");
     let run = twelve_sites();
-    let s = with_entry(fresh_kept(), 2, 7, 1);
+    let s = with_entry(fresh_kept(0), 2, 7, 1);
     let s = with_entry(s, 3, 8, 1);
     let s = with_parcel(s, 0, parcel_to(1, 9, 1));
     let s = with_parcel(s, 1, parcel_to(1, 7, 3));

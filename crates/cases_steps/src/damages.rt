@@ -23,34 +23,34 @@ use rules::Run;
 fn damaged_tables() {
     let run = three_sites();
     text(b"damaged: the last site's table has equal ids\n");
-    let s = with_entry(fresh_kept(), 16, 7, 1);
+    let s = with_entry(fresh_kept(0), 16, 7, 1);
     let s = with_entry(s, 17, 7, 2);
     show(query(s, run, 0, 7), run);
     text(b"damaged: falling ids\n");
-    let s = with_entry(fresh_kept(), 0, 9, 1);
+    let s = with_entry(fresh_kept(0), 0, 9, 1);
     let s = with_entry(s, 1, 7, 1);
     show(merge(s, run, 1, 2), run);
     text(b"damaged: a length above M\n");
-    let s = with_entry(fresh_kept(), 0, 7, M + 1);
+    let s = with_entry(fresh_kept(0), 0, 7, M + 1);
     show(remove(s, run, 0, 7), run);
     text(b"damaged: a word behind the entries\n");
-    let s = with_entry(fresh_kept(), 0, 7, 1);
+    let s = with_entry(fresh_kept(0), 0, 7, 1);
     let s = with_entry(s, 1, 9, 0);
     show(add(s, run, 0, 9), run);
     text(b"damaged: an entry behind an unused place\n");
-    let s = with_entry(fresh_kept(), 1, 7, 1);
+    let s = with_entry(fresh_kept(0), 1, 7, 1);
     show(send(s, run, 0, 1, 7), run);
 }
 
 fn damaged_slots() {
     let run = three_sites();
     text(b"damaged: a slot with length 0 and an id\n");
-    let s = with_parcel(fresh_kept(), 5, parcel_to(0, 7, 0));
+    let s = with_parcel(fresh_kept(0), 5, parcel_to(0, 7, 0));
     show(query(s, run, 0, 7), run);
     text(b"damaged: a slot with length 0 and a site\n");
-    let s = with_parcel(fresh_kept(), 7, parcel_to(2, 0, 0));
+    let s = with_parcel(fresh_kept(0), 7, parcel_to(2, 0, 0));
     show(deliver(s, run, 7), run);
-    let one_sent = with_ledger(fresh_kept(), 1, 0, 0, 0);
+    let one_sent = with_ledger(fresh_kept(0), 1, 0, 0, 0);
     text(b"damaged: a slot with a site outside the run\n");
     let s = with_parcel(one_sent, 0, parcel_to(3, 7, 1));
     show(deliver(s, run, 0), run);
@@ -63,13 +63,13 @@ fn damaged_slots() {
 fn damaged_ledgers() {
     let run = three_sites();
     text(b"damaged: a parcel waits that was never sent\n");
-    let s = with_parcel(fresh_kept(), 0, parcel_to(1, 7, 1));
+    let s = with_parcel(fresh_kept(0), 0, parcel_to(1, 7, 1));
     show(again(s, run, 0), run);
     text(b"damaged: one was sent, and it is nowhere\n");
-    let s = with_ledger(fresh_kept(), 1, 0, 0, 0);
+    let s = with_ledger(fresh_kept(0), 1, 0, 0, 0);
     show(add(s, run, 0, 7), run);
     text(b"damaged: counters whose sum wraps to 0\n");
-    let s = with_ledger(fresh_kept(), 18446744073709551615, 1, 0, 0);
+    let s = with_ledger(fresh_kept(0), 18446744073709551615, 1, 0, 0);
     show(query(s, run, 0, 7), run);
 }
 
@@ -77,13 +77,13 @@ fn damaged_ledgers() {
 fn counters_above_most() {
     let run = three_sites();
     text(b"damaged: each counter in turn above M\n");
-    let s = with_ledger(fresh_kept(), M + 1, 0, M, 1);
+    let s = with_ledger(fresh_kept(0), M + 1, 0, M, 1);
     show(merge(s, run, 0, 1), run);
-    let s = with_ledger(fresh_kept(), 0, M + 1, M, 1);
+    let s = with_ledger(fresh_kept(0), 0, M + 1, M, 1);
     show(remove(s, run, 0, 7), run);
-    let s = with_ledger(fresh_kept(), M, 1, M + 1, 0);
+    let s = with_ledger(fresh_kept(0), M, 1, M + 1, 0);
     show(send(s, run, 0, 1, 7), run);
-    let s = with_ledger(fresh_kept(), M, 1, 0, M + 1);
+    let s = with_ledger(fresh_kept(0), M, 1, 0, M + 1);
     show(lose(s, run, 0), run);
 }
 
@@ -95,7 +95,7 @@ fn sized(sites: u64, capacity: u64) {
         sites: sites,
         capacity: capacity,
     };
-    query(fresh_kept(), run, 0, 7);
+    query(fresh_kept(0), run, 0, 7);
 }
 
 // 24 sites fit the words and are too many; the last capacity fits only as a product that wraps.
@@ -132,7 +132,7 @@ fn every_step_judges() {
     let run = three_sites();
     text(b"each step judges the sizes: capacity 7\n");
     let s = every_step(
-        fresh_kept(),
+        fresh_kept(0),
         Run {
             sites: 3,
             capacity: 7,
@@ -140,13 +140,13 @@ fn every_step_judges() {
     );
     show(s, run);
     text(b"each step judges the tables: a word of the last site's last place\n");
-    let s = every_step(with_entry(fresh_kept(), 23, 7, 0), run);
+    let s = every_step(with_entry(fresh_kept(0), 23, 7, 0), run);
     show(s, run);
     text(b"each step judges the slots: an id in the last one\n");
-    let s = every_step(with_parcel(fresh_kept(), 7, parcel_to(0, 7, 0)), run);
+    let s = every_step(with_parcel(fresh_kept(0), 7, parcel_to(0, 7, 0)), run);
     show(s, run);
     text(b"each step judges the ledger: a loss of nothing\n");
-    let s = every_step(with_ledger(fresh_kept(), 0, 0, 0, 1), run);
+    let s = every_step(with_ledger(fresh_kept(0), 0, 0, 0, 1), run);
     show(s, run);
 }
 

@@ -1,7 +1,10 @@
 // Runs and states made by value.
 use kept::Kept;
+use kept::fresh_kept;
+use rules::Counts;
 use rules::Ledger;
 use rules::M;
+use rules::Pair;
 use rules::Parcel;
 use rules::Run;
 ghost use Prim.Native.Nat.{_<_};
@@ -35,11 +38,24 @@ pub(crate) fn one_site() -> Run {
     }
 }
 
+// From site 0, or from site 1 where it goes to site 0.
 pub(crate) fn parcel_to(site: u64, id: u64, length: u64) -> Parcel {
+    let sender: u32 = if site == 0 { 1 } else { 0 };
     Parcel {
         site: site,
         id: id,
         length: length,
+        sender: sender,
+        serial: 0,
+    }
+}
+
+pub(crate) fn pair_of(next: u32, heard: u32, unsent: u32, unheard: u32) -> Pair {
+    Pair {
+        next: next,
+        heard: heard,
+        unsent: unsent,
+        unheard: unheard,
     }
 }
 
@@ -76,12 +92,32 @@ pub(crate) fn with_parcel(state: Kept, slot: usize, parcel: Parcel) -> Kept
 pub(crate) fn with_ledger(state: Kept, sent: u64, copied: u64, absorbed: u64, lost: u64) -> Kept {
     let words = state.words;
     let slots = state.slots;
-    let ledger = Ledger {
+    let before = state.ledger;
+    let counts = Counts {
         sent: sent,
         copied: copied,
         absorbed: absorbed,
         lost: lost,
     };
+    let ledger = Ledger {
+        counts: counts,
+        pairs: before.pairs,
+    };
+    Kept {
+        words: words,
+        slots: slots,
+        ledger: ledger,
+    }
+}
+
+// The entry of site a to site b stands at 16 a + b.
+pub(crate) fn with_pair(state: Kept, at: usize, pair: Pair) -> Kept
+    requires { ⌜ at < 256 ⌝ }
+{
+    let words = state.words;
+    let slots = state.slots;
+    let mut ledger = state.ledger;
+    ledger.pairs[at] = pair;
     Kept {
         words: words,
         slots: slots,
@@ -91,18 +127,12 @@ pub(crate) fn with_ledger(state: Kept, sent: u64, copied: u64, absorbed: u64, lo
 
 // Every slot is occupied and sent, copied and absorbed are at M, so that 9 and 10 hold wherever they are asked for.
 pub(crate) fn all_waiting() -> Kept {
-    let words = [0u64; 48];
     let parcel = parcel_to(2, 7, 1);
     let slots = [parcel; 8];
-    let ledger = Ledger {
-        sent: M,
-        copied: M,
-        absorbed: M,
-        lost: M - 8,
-    };
+    let begun = with_ledger(fresh_kept(0), M, M, M, M - 8);
     Kept {
-        words: words,
+        words: begun.words,
         slots: slots,
-        ledger: ledger,
+        ledger: begun.ledger,
     }
 }

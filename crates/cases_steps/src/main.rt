@@ -1,4 +1,4 @@
-// Small runs, kept by value, take steps and say what became of each: the sample run, every refusal and their order, damaged states, counters at M.
+// Small runs, kept by value, take steps and say what became of each: the sample run, every refusal and their order, damaged states, counters at M, serials on links.
 mod counters;
 mod damages;
 mod made;
@@ -6,6 +6,7 @@ mod outcomes;
 mod print;
 mod refusals;
 mod sample;
+mod serials;
 mod show;
 mod steps;
 
@@ -14,6 +15,7 @@ use crate::damages::damages;
 use crate::outcomes::outcomes;
 use crate::refusals::refusals;
 use crate::sample::sample;
+use crate::serials::serials;
 
 fn main() {
     sample();
@@ -21,4 +23,5 @@ fn main() {
     outcomes();
     damages();
     counters_at_most();
+    serials();
 }

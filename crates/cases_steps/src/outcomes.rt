@@ -20,7 +20,7 @@ use rules::Run;
 fn merge_accepted() {
     text(b"a merge returns how many lengths rose; 8 sites, capacity 3\n");
     let run = eight_sites();
-    let s = with_entry(fresh_kept(), 0, 7, 2);
+    let s = with_entry(fresh_kept(0), 0, 7, 2);
     let s = with_entry(s, 1, 9, 1);
     let s = with_entry(s, 3, 7, 1);
     let s = with_entry(s, 4, 8, 3);
@@ -33,7 +33,7 @@ fn merge_accepted() {
 fn refused_delivery_waits() {
     text(b"a delivery with no room leaves its parcel; 12 sites, capacity 2\n");
     let run = twelve_sites();
-    let s = add(fresh_kept(), run, 0, 9);
+    let s = add(fresh_kept(0), run, 0, 9);
     let s = send(s, run, 0, 1, 9);
     let s = add(s, run, 1, 7);
     let s = add(s, run, 1, 8);
@@ -53,7 +53,7 @@ fn full_table_takes_a_held_id(before: Kept, run: Run) {
 }
 
 fn two_lengths_under_way(run: Run) -> Kept {
-    let s = add(fresh_kept(), run, 0, 7);
+    let s = add(fresh_kept(0), run, 0, 7);
     let s = send(s, run, 0, 1, 7);
     let s = again(s, run, 0);
     let s = again(s, run, 1);
@@ -78,7 +78,7 @@ fn stale_and_freed() {
 fn ends_of_the_numbers() {
     text(b"the smallest and the largest numbers: 3 sites, capacity 8\n");
     let run = three_sites();
-    let s = add(fresh_kept(), run, 0, 18446744073709551615);
+    let s = add(fresh_kept(0), run, 0, 18446744073709551615);
     let s = add(s, run, 0, 0);
     let s = send(s, run, 0, 1, 0);
     let s = deliver(s, run, 0);

@@ -22,7 +22,7 @@ use rules::Run;
 fn sizes_state_site() {
     text(b"1 before 2 before 3: 2 sites, then the ledger off, then a fresh run\n");
     let run = three_sites();
-    let off = with_ledger(fresh_kept(), 1, 0, 0, 0);
+    let off = with_ledger(fresh_kept(0), 1, 0, 0, 0);
     let s = add(
         off,
         Run {
@@ -34,7 +34,7 @@ fn sizes_state_site() {
     );
     let s = add(s, run, 9, 7);
     show(s, run);
-    let s = add(fresh_kept(), run, 9, 7);
+    let s = add(fresh_kept(0), run, 9, 7);
     let s = remove(s, run, 3, 7);
     let s = query(s, run, 3, 7);
     show(s, run);
@@ -82,7 +82,7 @@ fn deliver_refused() {
 fn lengths_run_out() {
     text(b"3 before 7, and lengths at M: 1 site, capacity 24\n");
     let run = one_site();
-    let s = with_entry(fresh_kept(), 0, 7, M);
+    let s = with_entry(fresh_kept(0), 0, 7, M);
     let s = with_entry(s, 1, 8, M - 1);
     let s = remove(s, run, 1, 7);
     let s = remove(s, run, 0, 7);
@@ -97,7 +97,7 @@ fn lengths_run_out() {
 fn no_room_to_add() {
     text(b"3 before 8: a full table, and what it still takes; 12 sites, capacity 2\n");
     let run = twelve_sites();
-    let s = add(fresh_kept(), run, 11, 7);
+    let s = add(fresh_kept(0), run, 11, 7);
     let s = add(s, run, 11, 9);
     let s = add(s, run, 12, 8);
     let s = add(s, run, 11, 8);
@@ -113,7 +113,7 @@ fn no_room_to_add() {
 fn merge_refused() {
     text(b"3 before 4, and a merge with no room writes nothing; 12 sites, capacity 2\n");
     let run = twelve_sites();
-    let s = with_entry(fresh_kept(), 0, 7, 2);
+    let s = with_entry(fresh_kept(0), 0, 7, 2);
     let s = with_entry(s, 1, 9, 1);
     let s = with_entry(s, 2, 7, 3);
     let s = with_entry(s, 3, 8, 3);

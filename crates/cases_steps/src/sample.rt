@@ -15,7 +15,7 @@ use kept::fresh_kept;
 use rules::Run;
 
 fn sample_first(run: Run) -> Kept {
-    let s = fresh_kept();
+    let s = fresh_kept(0);
     let s = add(s, run, 0, 7);
     let s = add(s, run, 1, 7);
     let s = send(s, run, 1, 2, 7);

@@ -1,8 +1,9 @@
-// The state of a run: the entries of each table, the slots that are not free, and the ledger.
+// The state of a run: the entries of each table, the slots that are not free, the counts, and the entry of each link that is not as it began.
 use crate::print::number;
 use crate::print::text;
 use kept::Kept;
-use rules::Ledger;
+use rules::Counts;
+use rules::Pair;
 use rules::Parcel;
 use rules::Run;
 
@@ -33,14 +34,17 @@ fn show_tables(words: [u64; 48], capacity: u64) {
 
 fn show_parcel(slot: u64, parcel: Parcel) {
     number(b"  slot=", slot);
+    number(b" from=", parcel.sender as u64);
     number(b" to=", parcel.site);
     number(b" id=", parcel.id);
     number(b" length=", parcel.length);
+    number(b" serial=", parcel.serial as u64);
     text(b"\n");
 }
 
 fn is_free(parcel: Parcel) -> bool {
-    parcel.site == 0 && parcel.id == 0 && parcel.length == 0
+    let empty = parcel.site == 0 && parcel.id == 0 && parcel.length == 0;
+    empty && parcel.sender == 0 && parcel.serial == 0
 }
 
 fn show_slots(slots: [Parcel; 8]) {
@@ -54,12 +58,38 @@ fn show_slots(slots: [Parcel; 8]) {
     }
 }
 
-fn show_ledger(ledger: Ledger) {
-    number(b"  sent=", ledger.sent);
-    number(b" copied=", ledger.copied);
-    number(b" absorbed=", ledger.absorbed);
-    number(b" lost=", ledger.lost);
+fn show_counts(counts: Counts) {
+    number(b"  sent=", counts.sent);
+    number(b" copied=", counts.copied);
+    number(b" absorbed=", counts.absorbed);
+    number(b" lost=", counts.lost);
     text(b"\n");
+}
+
+fn show_pair(at: u64, pair: Pair) {
+    number(b"  from=", at / 16);
+    number(b" to=", at % 16);
+    number(b" next=", pair.next as u64);
+    number(b" heard=", pair.heard as u64);
+    number(b" unsent=", pair.unsent as u64);
+    number(b" unheard=", pair.unheard as u64);
+    text(b"\n");
+}
+
+// An entry that is as it began has both marks standing as the library sets them.
+fn has_begun(pair: Pair) -> bool {
+    pair.unsent == 1 && pair.unheard == 1
+}
+
+fn show_pairs(pairs: [Pair; 256]) {
+    let mut at: usize = 0;
+    while at < 256 {
+        let pair = pairs[at];
+        if !has_begun(pair) {
+            show_pair(at as u64, pair);
+        }
+        at += 1;
+    }
 }
 
 pub(crate) fn show(state: Kept, run: Run) {
@@ -68,5 +98,6 @@ pub(crate) fn show(state: Kept, run: Run) {
     let slots = state.slots;
     show_slots(slots);
     let ledger = state.ledger;
-    show_ledger(ledger);
+    show_counts(ledger.counts);
+    show_pairs(ledger.pairs);
 }
