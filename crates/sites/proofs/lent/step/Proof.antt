@@ -61,7 +61,6 @@ use Rattle.sites.proofs.OnAct.{OneAct, gave-act, free-fits}
 use Rattle.sites.proofs.Outcomes.{judged-all, judged-step, scanned-low}
 use Rattle.rules.proofs.Ledger as T
 use Rattle.rules.proofs.Parcel as P
-use Rattle.rules.proofs.Parcel.Laws as P′
 use Rattle.rules.proofs.Run as U
 use Rattle.rules.proofs.Run.Laws as U′
 use Rattle.rules.proofs.Scan as S
