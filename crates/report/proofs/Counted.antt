@@ -9,6 +9,7 @@ use mathlib.Core.List.{List, [], _∷_, _++_}
 use lib.ListN.{length, take, drop, getD}
 use lib.Seq.{drop-cons, drop-length}
 use Rattle.rules.specs.declared.Parcel.{Parcel}
+use Rattle.rules.specs.declared.Counts.{Counts}
 use Rattle.rules.specs.meaning.Lengths.{M}
 use Rattle.rules.specs.meaning.Parcels.{isFree, noParcel, waiting}
 use Rattle.rules.specs.meaning.Table.{held, shown}
@@ -16,7 +17,7 @@ use Rattle.rules.specs.meaning.States.{State, tableAt, StateSound}
 use Rattle.rules.specs.laws.run.Tables.{words-long}
 use Rattle.rules.specs.laws.run.Sites.{tables-at}
 use Rattle.rules.specs.meaning.Text.{ascii}
-use Rattle.rules.specs.meaning.Reports.{reportRun, countLine, ledgerLines, siteLine, siteLines, endLines}
+use Rattle.rules.specs.meaning.Reports.{reportRun, countLine, ledgerLines, siteLine, siteLines, ending}
 use Rattle.report.specs.Tables.{ThreeTables}
 use Rattle.report.proofs.Words.{pair}
 
@@ -68,6 +69,6 @@ three-tables s h = record {
   sound = λ k l. tables-at M 16 3 (s .words) (h .1) k l;
 }
 
-pub end-pieces : (s : State) (w : ℕ) → w ≡ waiting (s .slots) → endLines s ≡ ledgerLines (s .ledger) w ++ siteLines 3 0 (s .words)
-unfolding endLines
-end-pieces s w e = rw e
+pub end-pieces : (ws : List ℕ) (ss : List Parcel) (c : Counts) (w : ℕ) → w ≡ waiting ss → ending ws ss c ≡ ledgerLines c w ++ siteLines 3 0 ws
+unfolding ending
+end-pieces ws ss c w e = rw e

@@ -9,7 +9,7 @@ use lib.ListN.{length}
 use types.Run.{OneOf, miss}
 use denote.Enum.Declared.{tagOf}
 use Rattle.rules.proofs.Step as Q
-use Rattle.rules.specs.declared.Ledger.{Ledger}
+use Rattle.rules.specs.declared.Counts.{Counts}
 use Rattle.rules.specs.declared.Answer.{Answer}
 use Rattle.rules.specs.declared.Step.{Step}
 use Rattle.rules.specs.declared.Step.the-variants.{Add, Remove, Query, Send, Merge, Deliver, Again, Lose}
@@ -46,7 +46,7 @@ pub query-pieces : (n k e m p : ℕ) → p ≡ cond (listed m) 1 0 → queryLine
 unfolding queryLine
 query-pieces n k e m p h = rw (← h) (simp append-assoc)
 
-pub ledger-pieces : (l : Ledger) (w : ℕ) → ledgerLines l w
+pub ledger-pieces : (l : Counts) (w : ℕ) → ledgerLines l w
     ≡ countLine (ascii "sent=") (l .sent) ++ (countLine (ascii "copied=") (l .copied) ++ (countLine (ascii "absorbed=") (l .absorbed) ++ (countLine (ascii "lost=") (l .lost) ++ countLine (ascii "waiting=") w)))
 unfolding ledgerLines
 ledger-pieces l w = refl
@@ -102,7 +102,7 @@ accepted-short n step m p = go (isQuery step)
     go true = query-within n (numbers step .first) (numbers step .id) m p
     go false = omega arith
 
-line-short : (r n : ℕ) (step : Step) (m : ℕ) → n < 100000 → r ≤ 10 → length (lineBy r n step m) ≤ 99
+line-short : (r n : ℕ) (step : Step) (m : ℕ) → n < 100000 → r ≤ 99 → length (lineBy r n step m) ≤ 99
 line-short zero n step m p q = accepted-short n step m p
 line-short (suc r) n step m p q = let a : length (refusedLine n (suc r)) ≤ 22 = refused-within n (suc r) p (omega arith) in omega arith
 
