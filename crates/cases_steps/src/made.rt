@@ -93,6 +93,7 @@ pub(crate) fn with_ledger(state: Kept, sent: u64, copied: u64, absorbed: u64, lo
     let words = state.words;
     let slots = state.slots;
     let before = state.ledger;
+    let pairs = before.pairs;
     let counts = Counts {
         sent: sent,
         copied: copied,
@@ -101,7 +102,7 @@ pub(crate) fn with_ledger(state: Kept, sent: u64, copied: u64, absorbed: u64, lo
     };
     let ledger = Ledger {
         counts: counts,
-        pairs: before.pairs,
+        pairs: pairs,
     };
     Kept {
         words: words,
@@ -130,9 +131,11 @@ pub(crate) fn all_waiting() -> Kept {
     let parcel = parcel_to(2, 7, 1);
     let slots = [parcel; 8];
     let begun = with_ledger(fresh_kept(0), M, M, M, M - 8);
+    let words = begun.words;
+    let ledger = begun.ledger;
     Kept {
-        words: begun.words,
+        words: words,
         slots: slots,
-        ledger: begun.ledger,
+        ledger: ledger,
     }
 }

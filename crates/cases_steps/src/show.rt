@@ -98,6 +98,8 @@ pub(crate) fn show(state: Kept, run: Run) {
     let slots = state.slots;
     show_slots(slots);
     let ledger = state.ledger;
-    show_counts(ledger.counts);
-    show_pairs(ledger.pairs);
+    let counts = ledger.counts;
+    show_counts(counts);
+    let pairs = ledger.pairs;
+    show_pairs(pairs);
 }
