@@ -2,6 +2,8 @@
 use crate::made::pair_of;
 use crate::made::parcel_to;
 use crate::made::three_sites;
+use crate::made::twelve_sites;
+use crate::made::with_entry;
 use crate::made::with_ledger;
 use crate::made::with_pair;
 use crate::made::with_parcel;
@@ -14,6 +16,7 @@ use crate::steps::query;
 use crate::steps::remove;
 use crate::steps::send;
 use kept::fresh_kept;
+use rules::M;
 
 fn wrapped() {
     text(
@@ -35,15 +38,30 @@ fn wrapped() {
 
 fn half_apart() {
     text(
-        b"15 before 8 and 10: a serial half of all away from the newest heard; with nothing heard it is taken\n",
+        b"15 before 8 before 10: a serial half of all away from the newest heard; site 1 full, absorbed at M; 12 sites, capacity 2\n",
     );
-    let run = three_sites();
-    let s = with_parcel(fresh_kept(0), 0, parcel_to(1, 7, 1));
-    let s = with_ledger(s, 1, 0, 0, 0);
+    let run = twelve_sites();
+    let s = with_entry(fresh_kept(0), 2, 8, 1);
+    let s = with_entry(s, 3, 9, 1);
+    let s = with_parcel(s, 0, parcel_to(1, 7, 1));
+    let s = with_ledger(s, M, 1, M, 0);
     let far = with_pair(s, 1, pair_of(1, 2147483648, 0, 0));
     show(deliver(far, run, 0), run);
     let near = with_pair(s, 1, pair_of(1, 2147483649, 0, 0));
     show(deliver(near, run, 0), run);
+}
+
+fn heard() {
+    text(
+        b"one less away it is newer, one more away it is older; with nothing heard any serial is taken\n",
+    );
+    let run = three_sites();
+    let s = with_parcel(fresh_kept(0), 0, parcel_to(1, 7, 1));
+    let s = with_ledger(s, 1, 0, 0, 0);
+    let older = with_pair(s, 1, pair_of(1, 2147483649, 0, 0));
+    show(deliver(older, run, 0), run);
+    let newer = with_pair(s, 1, pair_of(1, 2147483647, 0, 0));
+    show(deliver(newer, run, 0), run);
     show(deliver(s, run, 0), run);
 }
 
@@ -61,5 +79,6 @@ fn damaged_links() {
 pub(crate) fn serials() {
     wrapped();
     half_apart();
+    heard();
     damaged_links();
 }
