@@ -3,6 +3,7 @@ use crate::print::number;
 use crate::print::text;
 use kept::Kept;
 use rules::Counts;
+use rules::ENTRIES;
 use rules::Pair;
 use rules::Parcel;
 use rules::Run;
@@ -81,9 +82,9 @@ fn has_begun(pair: Pair) -> bool {
     pair.unsent == 1 && pair.unheard == 1
 }
 
-fn show_pairs(pairs: [Pair; 256]) {
+fn show_pairs(pairs: [Pair; ENTRIES]) {
     let mut at: usize = 0;
-    while at < 256 {
+    while at < ENTRIES {
         let pair = pairs[at];
         if !has_begun(pair) {
             show_pair(at as u64, pair);

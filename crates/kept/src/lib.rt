@@ -1,6 +1,7 @@
 // A small run kept by value: 48 words, 8 slots and a ledger, for programs that make the state themselves. Whoever calls these needs no proof by hand.
 use rules::Answer;
 use rules::Counts;
+use rules::ENTRIES;
 use rules::Ledger;
 use rules::Pair;
 use rules::Parcel;
@@ -54,7 +55,7 @@ pub fn fresh_kept(first: u32) -> Kept
     };
     let ledger = Ledger {
         counts: counts,
-        pairs: [begun; 256],
+        pairs: [begun; ENTRIES],
     };
     Kept {
         words: words,

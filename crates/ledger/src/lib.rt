@@ -22,6 +22,7 @@ pub use pairs::lag_of;
 pub use pairs::lag_undefined;
 pub use pairs::sent_pair;
 pub use pairs::silent;
+use rules::ENTRIES;
 use rules::Ledger;
 use rules::Pair;
 use rules::Seen;
@@ -35,7 +36,7 @@ ghost use Rattle.rules.specs.meaning.Ledgers.{seenOf, bookedLedger, startedIf};
 fn read_pair(ledger: &Ledger, link: usize) -> Pair
     ensures { λ r. ⌜ r ≡ getD (now (ledger .entry) .pairs) link noPair ⌝ }
 {
-    if link < 256 {
+    if link < ENTRIES {
         ledger.pairs[link]
     } else {
         Pair {
@@ -85,7 +86,7 @@ pub fn book(ledger: &mut Ledger, counter: u64, link: usize, pair: Pair)
     let before = ledger.counts;
     let after = raised(before, counter);
     ledger.counts = after;
-    if link < 256 {
+    if link < ENTRIES {
         ledger.pairs[link] = pair;
     }
 }

@@ -1,4 +1,5 @@
 // The links of a run, by number: where the entry of one is, and the order in which a loop goes over them.
+use rules::NO_LINK;
 ghost use mathlib.Core.Path.{_≡_};
 ghost use Prim.Native.Nat.{_<_};
 ghost use Rattle.rules.specs.meaning.Links.{linked, linkBetween};
@@ -38,7 +39,7 @@ pub fn link_between(sites: u64, from: u64, to: u64) -> usize
             }
         }
     }
-    256
+    NO_LINK
 }
 
 // The first link of n sites.

@@ -3,6 +3,7 @@ use crate::ahead::next_line;
 use crate::ends::say_ending;
 use crate::said::say_line;
 use rules::Counts;
+use rules::ENTRIES;
 use rules::Ledger;
 use rules::Pair;
 use rules::Parcel;
@@ -47,7 +48,7 @@ pub(crate) fn say_report(input: &[u8], out: &mut [u8]) -> usize
     let mut slots = [none; 8];
     let mut ledger = Ledger {
         counts: counts,
-        pairs: [begun; 256],
+        pairs: [begun; ENTRIES],
     };
     let mut n: u64 = 1;
     let mut start: usize = 0;

@@ -14,6 +14,12 @@ pub const ROOM_BESIDES: usize = 256;
 // The same for the largest input: 721,152 bytes.
 pub const REPORT_MAX: usize = ROOM_BY_BYTE * INPUT_MAX + ROOM_BESIDES;
 
+// How many entries a ledger has: one for each ordered pair of 16 sites.
+pub const ENTRIES: usize = 256;
+
+// The number of no link: past the last entry nothing is read or set.
+pub const NO_LINK: usize = ENTRIES;
+
 // Where an id stands in a table: the place of its entry, or its absence.
 pub enum Found {
     At(usize),
@@ -65,7 +71,7 @@ pub struct Counts {
 #[repr(C)]
 pub struct Ledger {
     pub counts: Counts,
-    pub pairs: [Pair; 256],
+    pub pairs: [Pair; ENTRIES],
 }
 
 // What one pass over the slots tells: whether each is free or rightly occupied, how many are occupied, and the lowest free one, or the number

@@ -1,6 +1,5 @@
 // The steps on parcels: send, again, lose and deliver.
 use crate::places::part_of;
-use crate::verdict::NO_LINK;
 use crate::verdict::Verdict;
 use crate::verdict::no_pair;
 use crate::verdict::no_parcel;
@@ -10,6 +9,7 @@ use ledger::sent_pair;
 use parcels::is_occupied;
 use rules::Found;
 use rules::M;
+use rules::NO_LINK;
 use rules::Pair;
 use rules::Parcel;
 use rules::Run;

@@ -1,5 +1,6 @@
 // What a step comes to, by value: its answer, the counter that it earns, the slot that it sets, and the link whose entry it sets.
 use rules::Answer;
+use rules::NO_LINK;
 use rules::Pair;
 use rules::Parcel;
 use rules::Sight;
@@ -21,9 +22,6 @@ pub struct Verdict {
 
 // No counter is earned.
 const NO_COUNTER: u64 = 0;
-
-// No link's entry is set.
-pub(crate) const NO_LINK: usize = 256;
 
 // What stands in a free slot.
 pub(crate) fn no_parcel() -> Parcel
