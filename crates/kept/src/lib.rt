@@ -9,8 +9,7 @@ use rules::Run;
 use rules::Step;
 ghost use mathlib.Core.Path.{_≡_};
 ghost use lib.ListN.{replicate};
-ghost use Rattle.rules.specs.meaning.Links.{startPair};
-ghost use Rattle.rules.specs.meaning.Ledgers.{noCounts};
+ghost use Rattle.rules.specs.meaning.Ledgers.{begunLedger};
 ghost use Rattle.rules.specs.meaning.Parcels.{noParcel};
 ghost use Rattle.rules.specs.meaning.States.{lent};
 ghost use Rattle.rules.specs.meaning.Runs.{Stepped};
@@ -30,7 +29,7 @@ pub struct Moved {
 
 // A run to begin with: no id at any site, every slot free, no count, and every link at the first serial.
 pub fn fresh_kept(first: u32) -> Kept
-    ensures { λ r. ⌜ keptState r ≡ lent (replicate 48 0) (replicate 8 noParcel) (record { counts = noCounts; pairs = replicate 256 (startPair first) }) ⌝ }
+    ensures { λ r. ⌜ keptState r ≡ lent (replicate 48 0) (replicate 8 noParcel) (begunLedger first) ⌝ }
 {
     let words = [0u64; 48];
     let none = Parcel {

@@ -2,13 +2,13 @@
 -- Assumes nothing.
 use Prim.Native.Nat.{ℕ, suc, _+_}
 use mathlib.Core.Bool.{Bool, true, false, _&&_, cond}
-use lib.ListN.{getD, set}
+use lib.ListN.{getD, set, replicate}
 use lib.Dec.{leb, ltb, eqb}
 use Rattle.rules.specs.declared.Pair.{Pair}
 use Rattle.rules.specs.declared.Counts.{Counts}
 use Rattle.rules.specs.declared.Ledger.{Ledger}
 use Rattle.rules.specs.declared.Seen.{Seen}
-use Rattle.rules.specs.meaning.Links.{noPair, linksSound, linksBegun}
+use Rattle.rules.specs.meaning.Links.{noLink, noPair, startPair, linksSound, linksBegun}
 
 -- ---- the counts
 unfoldable pub countsSound : ℕ → ℕ → Counts → Bool
@@ -62,7 +62,11 @@ bookedLedger most counter link p l = record { counts = raisedCounts most counter
 abbrev pub startedLedger : ℕ → ℕ → Ledger → Ledger
 startedLedger sites first l = record { counts = noCounts; pairs = linksBegun sites first (l .pairs) }
 
--- the same where that is wanted, else the ledger as it is
+-- a ledger that has no count, and of which every entry is at its beginning: what a run begins with that is not made fresh from another
+abbrev pub begunLedger : ℕ → Ledger
+begunLedger first = record { counts = noCounts; pairs = replicate noLink (startPair first) }
+
+-- a ledger started where that is wanted, else the ledger as it is
 unfoldable pub startedIf : Bool → ℕ → ℕ → Ledger → Ledger
 startedIf true sites first l = startedLedger sites first l
 startedIf false sites first l = l

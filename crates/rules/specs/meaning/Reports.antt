@@ -17,8 +17,7 @@ use Rattle.rules.specs.declared.Reported.{Reported}
 use Rattle.rules.specs.meaning.Lengths.{listed}
 use Rattle.rules.specs.meaning.Table.{held, shown}
 use Rattle.rules.specs.meaning.Parcels.{noParcel, waiting}
-use Rattle.rules.specs.meaning.Links.{startPair}
-use Rattle.rules.specs.meaning.Ledgers.{noCounts}
+use Rattle.rules.specs.meaning.Ledgers.{begunLedger}
 use Rattle.rules.specs.meaning.States.{State, lent, tableAt}
 use Rattle.rules.specs.meaning.Refusals.{_when_, firstGiven}
 use Rattle.rules.specs.meaning.Runs.{refusalOf, valueOf, after}
@@ -35,7 +34,7 @@ reportRun = record { sites = 3; capacity = 8 }
 
 -- "The report starts each pair at 0"
 abbrev pub reportLedger : Ledger
-reportLedger = record { counts = noCounts; pairs = replicate 256 (startPair 0) }
+reportLedger = begunLedger 0
 
 abbrev pub reportStart : State
 reportStart = lent (replicate 48 0) (replicate 8 noParcel) reportLedger
