@@ -1,4 +1,4 @@
-// A run: the sizes, the judging of the three lent things, a fresh start and the eight steps. What each means is said in `specs/meaning/Runs.antt` of the
+// A run: the sizes, the judging of the three lent things, a fresh start, the eight steps and the lag query. What each means is said in `specs/meaning/Runs.antt` of the
 // crate `rules`. `lent` is the only module that touches the slots and the ledger where they are lent; all else works by value and on the words.
 mod begin;
 mod decide;
