@@ -1,11 +1,12 @@
 -- Serials, links and the lag by example: the order of RFC 1982 at its edges, a run whose serials wrap, what is unsound, and the order of the refusals. The
 -- checker computes all of it from the definitions as they stand.
 -- Assumes nothing.
-use Prim.Native.Nat.{ℕ}
+use Prim.Native.Nat.{ℕ, zero, suc, _+_, _%_, _<_}
+use native.Mathlib.Omega.{arith}
 use mathlib.Core.Bool.{Bool, true, not}
 use mathlib.Core.Path.{_≡_, refl}
-use mathlib.Core.List.{List, [], _∷_}
-use lib.ListN.{replicate}
+use mathlib.Core.List.{List, [], _∷_, _++_}
+use lib.ListN.{length, replicate}
 use lib.Dec.{eqb}
 use lib.IntN.{pos, negsuc}
 use Rattle.rules.specs.declared.Run.{Run}
@@ -18,8 +19,8 @@ use Rattle.rules.specs.meaning.Lengths.{M, listed, afterAdd, afterRemove
 use Rattle.rules.specs.meaning.Table.{unused, soundFrom, lengthOf, held, push, withLength, raised, heldWith}
 use Rattle.rules.specs.meaning.Operations.{raiseRefusal, raiseTable, removeRefusal, removeTable}
 use Rattle.rules.specs.meaning.Parcels.{noParcel, isFree, isOccupied, slotsSound, waiting, lowestFree, cleared}
-use Rattle.rules.specs.meaning.Serials.{nextSerial, serialBefore, isNewer, ahead, isOrdered, lagOf}
-use Rattle.rules.specs.meaning.Links.{startPair, linkBetween, pairSound, overRow, overRows, linksSound, linksBegun, movesOn, heardPair, incomparable}
+use Rattle.rules.specs.meaning.Serials.{serials, nextSerial, serialBefore, isNewer, ahead, isOrdered, lagOf}
+use Rattle.rules.specs.meaning.Links.{noPair, pairAt, startPair, linkBetween, pairSound, overRow, overRows, linksSound, linksBegun, movesOn, heardPair, incomparable}
 use Rattle.rules.specs.meaning.Ledgers.{countsSound, noCounts, oneMore, raisedIf}
 use Rattle.rules.specs.meaning.Refusals.{firstGiven}
 use Rattle.rules.specs.meaning.Kinds.{slotOf, linkOf, numbers}
@@ -28,7 +29,9 @@ use Rattle.rules.specs.meaning.Steps.{effect}
 use Rattle.rules.specs.meaning.Runs.{refusalIn, refusalOf, valueOf, after, freshRefusal, afterFresh}
 use Rattle.rules.specs.meaning.Lags.{silent, lagUndefined, lagIn, lagAnswer}
 use Rattle.rules.specs.meaning.Histories.{ran, acceptedOf, pairIn, isSendOn, sentOn, serialsFrom}
-use Rattle.rules.specs.cases.Marked.{all, same, two-sites, counts-of, pair, noise, ledger-with, ledger-of, waiting-for-1, same-pair, same-slots, step-refused, step-taken}
+use Rattle.rules.specs.cases.Marked.{all, same, two-sites, counts-of, pair, noise, entries, ledger-with, ledger-of, waiting-for-1, same-pair, same-slots, step-refused, step-taken}
+use Rattle.rules.specs.laws.run.Reads.{SameLinks}
+use Rattle.rules.specs.laws.history.Links.{next-is-counted}
 use Rattle.rules.specs.cases.Sample.{refusals}
 
 -- ---- the order, and the wrapped difference with its sign
@@ -46,8 +49,11 @@ order-cases = record { wraps = (refl, refl, refl, refl); edges = (refl, refl, re
 abbrev run : Run
 run = record { sites = 2; capacity = 2 }
 
+abbrev stood : State
+stood = lent (replicate 8 5) (replicate 3 (record { site = 9; id = 9; length = 9; sender = 9; serial = 9 })) (ledger-with (counts-of 5 5 5 5) noise)
+
 abbrev begun : State
-begun = afterFresh run 4294967295 (lent (replicate 8 5) (replicate 3 (record { site = 9; id = 9; length = 9; sender = 9; serial = 9 })) (ledger-with (counts-of 5 5 5 5) noise))
+begun = afterFresh run 4294967295 stood
 
 abbrev sent : ℕ → ℕ → Parcel
 sent n serial = record { site = 1; id = 7; length = n; sender = 0; serial = serial }
@@ -137,3 +143,27 @@ lag-cases = record {
   silent-first = (refl, refl);
   unordered = refl;
 }
+
+-- ---- what the promises suppose is met: of the links by this run, and of the entries that nobody reads by two ledgers that differ in nothing else
+made : freshRefusal run (length (stood .words)) (length (stood .slots)) ≡ 0
+unfolding freshRefusal sizesRight firstGiven
+made = refl
+
+pub next-counted : pairIn out 0 1 .next ≡ (4294967295 + acceptedOf (isSendOn 0 1) run begun goes-out) % serials
+next-counted = next-is-counted run 4294967295 stood made (omega arith) refl 0 1 (omega arith) (omega arith) (λ z. omega (arith, z)) goes-out
+
+-- the entries of `Marked` with calm in place of noise
+abbrev calm : Pair → List Pair
+calm p = noPair ∷ p ∷ (replicate 14 noPair ++ (startPair 9 ∷ replicate 239 noPair))
+
+calm-agrees : (p : Pair) (a b : ℕ) → a < 2 → b < 2 → (a ≡ b → ⊥) → pairAt a b (entries p) ≡ pairAt a b (calm p)
+calm-agrees p zero zero la lb d = absurd (d refl)
+calm-agrees p zero (suc zero) la lb d = refl
+calm-agrees p zero (suc (suc b)) la lb d = absurd (omega arith)
+calm-agrees p (suc zero) zero la lb d = refl
+calm-agrees p (suc zero) (suc zero) la lb d = absurd (d refl)
+calm-agrees p (suc zero) (suc (suc b)) la lb d = absurd (omega arith)
+calm-agrees p (suc (suc a)) b la lb d = absurd (omega arith)
+
+pub noise-is-not-read : (p : Pair) → SameLinks 2 (entries p) (calm p)
+noise-is-not-read p = record { whole = refl; whole′ = refl; agree = calm-agrees p }
