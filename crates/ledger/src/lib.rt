@@ -74,6 +74,7 @@ pub fn see(ledger: &Ledger, sites: u64, link: usize) -> Seen
     let sound = links_sound(ledger, sites);
     Seen {
         counts: counts,
+        link: link,
         pair: pair,
         sound: sound,
     }

@@ -82,9 +82,10 @@ pub struct Scan {
     pub free: usize,
 }
 
-// What a step sees of the ledger: the counts, the entry of the link that it names, and whether the entries of the run's links are sound.
+// What a step sees of the ledger: the counts, the link that it names with its entry, and whether the entries of the run's links are sound.
 pub struct Seen {
     pub counts: Counts,
+    pub link: usize,
     pub pair: Pair,
     pub sound: bool,
 }

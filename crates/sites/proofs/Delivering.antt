@@ -16,7 +16,7 @@ use Rattle.rules.specs.meaning.Table.{raised}
 use Rattle.rules.specs.meaning.Operations.{answer, raiseRefusal, raiseAnswer, raiseTable, absorbAnswer, absorbTable}
 use Rattle.rules.specs.meaning.Parcels.{noParcel}
 use Rattle.rules.specs.laws.run.Slots.{occupied-has}
-use Rattle.rules.specs.meaning.Links.{linkBetween, heardPair, incomparable}
+use Rattle.rules.specs.meaning.Links.{heardPair, incomparable}
 use Rattle.rules.specs.meaning.Ledgers.{absorbedCounter}
 use Rattle.rules.specs.meaning.Refusals.{firstGiven}
 use Rattle.rules.specs.meaning.States.{tableAt, withTable}
@@ -69,14 +69,14 @@ module _ (run : Run) (ws : List ℕ) (si : Sight) (i : ℕ) where
         unfolding stepRefusal firstGiven raiseRefusal effect
         refusal = rw (there, ordered, ne-eqb (si .books .counts .absorbed) M below)
 
-        pub deliver-step : (link : ℕ) → link ≡ linkBetween (run .sites) (si .named .sender) (si .named .site) → (pair : Pair) → pair ≡ heardPair (si .named .serial) (si .books .pair)
-            → (delivered (absorbAnswer (tableAt run ws (si .named .site)) (si .named .id) (si .named .length)) i (si .count) link pair ≡ stepVerdict run ws si (Deliver i))
+        pub deliver-step : (pair : Pair) → pair ≡ heardPair (si .named .serial) (si .books .pair)
+            → (delivered (absorbAnswer (tableAt run ws (si .named .site)) (si .named .id) (si .named .length)) i (si .count) (si .books .link) pair ≡ stepVerdict run ws si (Deliver i))
             × (withTable run ws (si .named .site) (absorbTable (tableAt run ws (si .named .site)) (si .named .id) (si .named .length)) ≡ stepWords run ws si (Deliver i))
         unfolding raiseAnswer raiseTable effect
-        deliver-step link l pair p =
+        deliver-step pair p =
             let t = tableAt run ws (si .named .site) in
             let n = lengthDelivered run ws (si .named) in
             let r = raiseRefusal t (si .named .id) n in (
-              rw (refusal, l, p) (by-answer r n i (si .count) (linkBetween (run .sites) (si .named .sender) (si .named .site)) (heardPair (si .named .serial) (si .books .pair))),
+              rw (refusal, p) (by-answer r n i (si .count) (si .books .link) (heardPair (si .named .serial) (si .books .pair))),
               rw refusal (kept r run ws (si .named .site) (raised (tableAt run ws (si .named .site)) (si .named .id) (lengthDelivered run ws (si .named)))),
             )

@@ -15,7 +15,7 @@ use Rattle.rules.specs.declared.Step.the-variants.{Send, Again, Lose, Deliver}
 use Rattle.rules.specs.meaning.Lengths.{M}
 use Rattle.rules.specs.meaning.Table.{lengthOf}
 use Rattle.rules.specs.meaning.Parcels.{noParcel, isOccupied}
-use Rattle.rules.specs.meaning.Links.{noLink, noPair, linkBetween, sentPair}
+use Rattle.rules.specs.meaning.Links.{noLink, noPair, sentPair}
 use Rattle.rules.specs.meaning.Ledgers.{sentCounter, copiedCounter, lostCounter}
 use Rattle.rules.specs.meaning.Refusals.{firstGiven}
 use Rattle.rules.specs.meaning.States.{tableAt}
@@ -93,8 +93,8 @@ module _ (run : Run) (ws : List ℕ) (si : Sight) (f t e : ℕ) where
         unfolding stepRefusal firstGiven effect
         send-unheld z = rw (lt-leb (run .sites) f from-in, lt-leb (run .sites) t to-in, ne-eqb f t other, eq-eqb (lengthOf (tableAt run ws f) e) 0 z)
 
-        pub send-step : (lengthOf (tableAt run ws f) e ≡ 0 → ⊥) → (n : ℕ) → n ≡ lengthOf (tableAt run ws f) e → (link : ℕ) → link ≡ linkBetween (run .sites) f t → (pair : Pair) → pair ≡ sentPair (si .books .pair)
-            → posted si (record { site = t; id = e; length = n; sender = f; serial = si .books .pair .next }) sentCounter (si .books .counts .sent) link pair ≡ stepVerdict run ws si (Send f t e)
+        pub send-step : (lengthOf (tableAt run ws f) e ≡ 0 → ⊥) → (n : ℕ) → n ≡ lengthOf (tableAt run ws f) e → (pair : Pair) → pair ≡ sentPair (si .books .pair)
+            → posted si (record { site = t; id = e; length = n; sender = f; serial = si .books .pair .next }) sentCounter (si .books .counts .sent) (si .books .link) pair ≡ stepVerdict run ws si (Send f t e)
         unfolding posted stepRefusal firstGiven effect
-        send-step z n q link l pair p =
-            rw (q, l, p, lt-leb (run .sites) f from-in, lt-leb (run .sites) t to-in, ne-eqb f t other, ne-eqb (lengthOf (tableAt run ws f) e) 0 z)
+        send-step z n q pair p =
+            rw (q, p, lt-leb (run .sites) f from-in, lt-leb (run .sites) t to-in, ne-eqb f t other, ne-eqb (lengthOf (tableAt run ws f) e) 0 z)

@@ -6,7 +6,6 @@ use crate::verdict::no_parcel;
 use crate::verdict::refuse;
 use ledger::heard_pair;
 use ledger::incomparable;
-use ledger::link_between;
 use rules::Answer;
 use rules::M;
 use rules::Pair;
@@ -58,9 +57,8 @@ pub(crate) fn on_deliver(words: &mut [u64], run: Run, seen: Sight, slot: u64) ->
             return refuse(10, seen);
         }
         let answer = table::absorb(&mut words[from..to], named.id, named.length);
-        let link = link_between(run.sites, named.sender as u64, named.site);
         let heard = heard_pair(named.serial, books.pair);
-        return settle(answer, seen, slot, link, heard);
+        return settle(answer, seen, slot, books.link, heard);
     }
     refuse(5, seen)
 }

@@ -4,7 +4,6 @@ use crate::verdict::Verdict;
 use crate::verdict::no_pair;
 use crate::verdict::no_parcel;
 use crate::verdict::refuse;
-use ledger::link_between;
 use ledger::sent_pair;
 use parcels::is_occupied;
 use rules::Found;
@@ -77,9 +76,8 @@ pub(crate) fn on_send(words: &[u64], run: Run, seen: Sight, from: u64, to: u64, 
         serial: pair.next,
     };
     let counts = books.counts;
-    let link = link_between(run.sites, from, to);
     let after = sent_pair(pair);
-    post(seen, parcel, 1, counts.sent, link, after)
+    post(seen, parcel, 1, counts.sent, books.link, after)
 }
 
 // Whether the named slot is there and occupied.

@@ -138,17 +138,17 @@ module _ {M : Type 1} (𝓤 : URA M) (H : Heap 𝓤) (A : Atoms 𝓤) (W : Given
         (and-then ! (load ! (from ! (stop !)) (look ! 13 refl)) (and-then ! (load ! (from ! (stop !)) (look ! 11 refl)) (no-more !))) (λ t v₂ e₂ is₂.
         land ! (from ! (stop !)) (init ! 3 refl (b-typed t v₂ is₂)) $ rewrite ! 3 (λ (u : Val). ‵ (fat fullShare tyBool l₆ 0 u)) (b-at t v₂ is₂) refl $
         use1 W (‵ (flft κ q) ⊛ ‵ ftrue) (id⊢ 𝓤 _) $ split ! $ move ! (1 ∷ []) $ drop ! $ move ! (1 ∷ []) $
-        assigns ! (agg ! (and-then ! (load ! (from ! (stop !)) (look ! 7 refl)) (and-then ! (load ! (from ! (stop !)) (look ! 5 refl)) (and-then ! (load ! (from ! (stop !)) (look ! 3 refl)) (no-more !))))) (from ! (stop !))
+        assigns ! (agg ! (and-then ! (load ! (from ! (stop !)) (look ! 7 refl)) (and-then ! (load ! (from ! (stop !)) (look ! 9 refl)) (and-then ! (load ! (from ! (stop !)) (look ! 5 refl)) (and-then ! (load ! (from ! (stop !)) (look ! 3 refl)) (no-more !)))))) (from ! (stop !))
         (init ! 15 refl (typed S.the-type S′.the-laws 𝓤 H A W (saw p t) _ (saw-is p t is (is-at P.the-type P′.the-laws p p v₁ is₁ refl)) .0)) $
         returns ! (look ! 15 refl) $ forget ! 3 refl $ forget ! 5 refl $ forget ! 7 refl $ forget ! 9 refl $ forget ! 11 refl $ forget ! 13 refl $ forget ! 15 refl $
         move ! (15 ∷ 16 ∷ []) $ free1 ! $ move ! (13 ∷ 14 ∷ []) $ free1 ! $ move ! (11 ∷ 12 ∷ []) $ free1 ! $ move ! (9 ∷ 10 ∷ []) $ free1 ! $ move ! (7 ∷ 8 ∷ []) $ free1 ! $ move ! (5 ∷ 6 ∷ []) $ free1 ! $ move ! (3 ∷ 4 ∷ []) $ free1 ! $ free0 ! $
-        keep ! (0 ∷ 1 ∷ 2 ∷ []) $ by ! (exits (saw p t) (λ j. record { counts = h .counts; pair = e₁ j; sound = e₂ j }) (saw-is p t is (is-at P.the-type P′.the-laws p p v₁ is₁ refl))))))))))))))
+        keep ! (0 ∷ 1 ∷ 2 ∷ []) $ by ! (exits (saw p t) (λ j. record { counts = h .counts; link = i; pair = e₁ j; sound = e₂ j }) (saw-is p t is (is-at P.the-type P′.the-laws p p v₁ is₁ refl))))))))))))))
       where
         saw : Pair → Bool → Seen
-        saw p t = record { counts = h .counts; pair = p; sound = t }
+        saw p t = record { counts = h .counts; link = i; pair = p; sound = t }
 
         saw-is : (p : Pair) (t : Bool) → Is Cr (h .counts) (c-vals (h .counts)) → Is Pr p (p-vals p) → Is S.the-row (saw p t) (s-val (saw p t) ∷ [])
-        saw-is p t gc gp = LL.owes S.the-type S′.the-laws (saw p t) (gc, (gp, (refl, tt)))
+        saw-is p t gc gp = LL.owes S.the-type S′.the-laws (saw p t) (gc, ((refl, gi), (gp, (refl, tt))))
 
 module _ {M : Type 1} (𝓤 : URA M) (H : Heap 𝓤) (A : Atoms 𝓤) (W : Given 𝓤 H A) (at-mem : Memory → SProp 𝓤) (run : Routine → Fun 𝓤) where
   walks : (C : Calls 𝓤 H) (Λ : Loops 𝓤 H) → FmC 𝓤 H (W .laws) C → Triple 𝓤 (C #ledger·read-pair) (ReadPair 𝓤 H A at-mem run) → Triple 𝓤 (C #ledger·links-sound) (LinksSound 𝓤 H A at-mem run) → Walks 𝓤 H A see.ended stayed (WpFn 𝓤 H C Λ code.function) (see.clauses 𝓤 H A at-mem run)

@@ -73,4 +73,4 @@ startedIf false sites first l = l
 
 -- what a step sees of it
 abbrev pub seenOf : ℕ → ℕ → Ledger → Seen
-seenOf sites link l = record { counts = l .counts; pair = getD (l .pairs) link noPair; sound = linksSound sites (l .pairs) }
+seenOf sites link l = record { counts = l .counts; link = link; pair = getD (l .pairs) link noPair; sound = linksSound sites (l .pairs) }

@@ -14,7 +14,7 @@ use Rattle.rules.specs.meaning.Lengths.{M, afterAdd, afterRemove, join, 
 use Rattle.rules.specs.meaning.Table.{lengthOf, heldWith, heldMerged, rises}
 use Rattle.rules.specs.meaning.Operations.{crowded, addTable, absorbTable, removeTable, mergeTable}
 use Rattle.rules.specs.meaning.Parcels.{noParcel, isOccupied}
-use Rattle.rules.specs.meaning.Links.{noLink, noPair, linkBetween, sentPair, heardPair, incomparable}
+use Rattle.rules.specs.meaning.Links.{noLink, noPair, sentPair, heardPair, incomparable}
 use Rattle.rules.specs.meaning.Ledgers.{noCounter, sentCounter, copiedCounter, absorbedCounter, lostCounter}
 use Rattle.rules.specs.meaning.Refusals.{Test, _when_}
 use Rattle.rules.specs.meaning.States.{tableAt, withTable}
@@ -150,7 +150,7 @@ module _ (run : Run) where
       tests = (3 when (outside f || outside t)) ∷ (4 when eqb f t) ∷ (6 when unheld f e) ∷ (9 when noFreeSlot si) ∷ (10 when eqb (si .books .counts .sent) M) ∷ [];
       value = si .scan .free;
       gain = noGain;
-      post = puts si (record { site = t; id = e; length = at f e; sender = f; serial = si .books .pair .next }) sentCounter (linkBetween (run .sites) f t) (sentPair (si .books .pair));
+      post = puts si (record { site = t; id = e; length = at f e; sender = f; serial = si .books .pair .next }) sentCounter (si .books .link) (sentPair (si .books .pair));
     }
     -- again: "second parcel like the one in the slot, copied + 1"; "new slot". "A copy made by again keeps its serial"
     effect si (Again i) = record {
@@ -170,7 +170,7 @@ module _ (run : Run) where
         offer = cond (nothingThere si i) [] (si .named .id ∷ []);
         words = withTable run ws (si .named .site) (absorbTable (table (si .named .site)) (si .named .id) (si .named .length));
       };
-      post = frees i absorbedCounter (linkBetween (run .sites) (si .named .sender) (si .named .site)) (heardPair (si .named .serial) (si .books .pair));
+      post = frees i absorbedCounter (si .books .link) (heardPair (si .named .serial) (si .books .pair));
     }
     -- lose: "slot freed, lost + 1"; 0
     effect si (Lose i) = record {

@@ -142,12 +142,6 @@ absorb-requires c κs =
     let k = a .args .seen .named .site in
     rw (part-is (a .args .run) (W p) k _ _ (p .part-of .ensures .0) (p .part-of .ensures .1)) (site-sound (a .args .run) (W p) (a .pre) k (inside p))
 
-cast-link-between : tie.Need-cast-link-between
-cast-link-between c = search needs
-
-link-between-requires : tie.Need-link-between-requires
-link-between-requires c κs = search needs
-
 heard-pair-requires : tie.Need-heard-pair-requires
 heard-pair-requires c κs = search needs
 
@@ -160,16 +154,15 @@ same-length-3 c = search needs
 returns-4 : tie.Need-returns-4
 returns-4 c =
     let h = c .before in
-    let l = h .before in
-    let d = l .before .before .before .before in
+    let d = h .before .before .before in
     let e = d .before .before in
     let p = e .before .before .before in
     let a = start p .args in
     let n = a .seen .named in
-    let done = deliver-step (a .run) (W p) (a .seen) (a .slot) (there p) (ordered p) (e .if3 .left) _ (l .link-between .ensures) _ (h .heard-pair .ensures) in
+    let done = deliver-step (a .run) (W p) (a .seen) (a .slot) (there p) (ordered p) (e .if3 .left) _ (h .heard-pair .ensures) in
     let said = told-of (a .run) (W p) (n .site) _ _ (p .part-of .ensures .0) (p .part-of .ensures .1) (λ (t : List ℕ). absorbAnswer t (n .id) (n .length)) (d .absorb .ensures .0) in
     let left = put-of (a .run) (W p) (n .site) _ _ (p .part-of .ensures .0) (p .part-of .ensures .1) (λ (t : List ℕ). absorbTable t (n .id) (n .length)) (d .absorb .ensures .1) in
-    (c .settle .ensures ∙ ap (λ (x : Answer). delivered x (a .slot) (a .seen .count) (l .link-between .result) (h .heard-pair .result)) said ∙ done .0, left ∙ done .1)
+    (c .settle .ensures ∙ ap (λ (x : Answer). delivered x (a .slot) (a .seen .count) (a .seen .books .link) (h .heard-pair .result)) said ∙ done .0, left ∙ done .1)
 
 refuse-requires-4 : tie.Need-refuse-requires-4
 refuse-requires-4 c κs = search needs
@@ -206,8 +199,6 @@ on-deliver-spec =
     part-absorb-start
     part-absorb-end
     absorb-requires
-    cast-link-between
-    link-between-requires
     heard-pair-requires
     settle-requires
     same-length-3

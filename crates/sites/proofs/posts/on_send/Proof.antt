@@ -131,29 +131,26 @@ returns-4 c =
     ∙ refused-verdict _ _ _ _ 5 (send-unheld (a .run) (W p) (a .seen) (a .from) (a .to) (a .id) (from-in p) (to-in p) (p .before .if3 .left)
     (none _ _ (sound-of p) (sym (found-of l) ∙ c .before .enum-told .given .1)))
 
-mul-t19 : tie.Need-mul-t19
-mul-t19 c = omega (arith, small (c .before .before))
+mul-t18 : tie.Need-mul-t18
+mul-t18 c = omega (arith, small (c .before .before))
 
-add-t21 : tie.Need-add-t21
-add-t21 c = omega (arith, small (c .before .before))
+add-t20 : tie.Need-add-t20
+add-t20 c = omega (arith, small (c .before .before))
 
-mul-t24 : tie.Need-mul-t24
-mul-t24 c = omega (arith, small (c .before .before))
+mul-t23 : tie.Need-mul-t23
+mul-t23 c = omega (arith, small (c .before .before))
 
-shared-slice-read-t26 : tie.Need-shared-slice-read-t26
-shared-slice-read-t26 c =
+shared-slice-read-t25 : tie.Need-shared-slice-read-t25
+shared-slice-read-t25 c =
     let k = c .before .before .before in
     let p = part-of (lookup-of k) in
     let a = start p .args in
     rw (part-is (a .run) (W p) (a .from) _ _ (p .part-of .ensures .0) (p .part-of .ensures .1)) (low k)
 
-cast-t27 : tie.Need-cast-t27
-cast-t27 c =
+cast-t26 : tie.Need-cast-t26
+cast-t26 c =
     let p = part-of (lookup-of (c .before .before .before)) in
     record { fits = omega (arith, from-in p, start p .pre .sized .few) }
-
-link-between-requires : tie.Need-link-between-requires
-link-between-requires c κs = search needs
 
 sent-pair-requires : tie.Need-sent-pair-requires
 sent-pair-requires c κs = search needs
@@ -164,8 +161,7 @@ post-requires c κs = search needs
 returns-5 : tie.Need-returns-5
 returns-5 c =
     let s = c .before in
-    let l = s .before in
-    let k = l .before .before .before .before .before in
+    let k = s .before .before .before .before .before in
     let p = part-of (lookup-of k) in
     let a = start p .args in
     let t = tableAt (a .run) (W p) (a .from) in
@@ -173,7 +169,7 @@ returns-5 c =
     c .post .ensures
     ∙ send-step (a .run) (W p) (a .seen) (a .from) (a .to) (a .id) (from-in p) (to-in p) (p .before .if3 .left) held _
     (ap (λ (u : List ℕ). lengthAt u (I k)) (part-is (a .run) (W p) (a .from) _ _ (p .part-of .ensures .0) (p .part-of .ensures .1)) ∙ its t (a .id) (I k) (sound-of p) (found k))
-    _ (l .link-between .ensures) _ (s .sent-pair .ensures)
+    _ (s .sent-pair .ensures)
 
 pub on-send-spec : {M : Type 1} → statement M
 on-send-spec =
@@ -195,12 +191,11 @@ on-send-spec =
     enum-told
     refuse-requires-4
     returns-4
-    mul-t19
-    add-t21
-    mul-t24
-    shared-slice-read-t26
-    cast-t27
-    link-between-requires
+    mul-t18
+    add-t20
+    mul-t23
+    shared-slice-read-t25
+    cast-t26
     sent-pair-requires
     post-requires
     returns-5)
