@@ -7,7 +7,7 @@ use mathlib.Core.Path.{_≡_}
 use mathlib.Core.List.{List, _∷_, _++_}
 use lib.ListN.{length, getD}
 use lib.Dec.{eqb, ltb}
-use lib.IntN.{natAbs}
+use lib.IntN.{pos, natAbs}
 use Rattle.rules.specs.declared.Run.{Run}
 use Rattle.rules.specs.declared.Answer.{Answer}
 use Rattle.rules.specs.declared.Reported.{Reported}
@@ -198,6 +198,10 @@ next-serial-is-newer = Serials.next-newer
 pub lag-leads-from-sent-to-heard : (run : Run) (s : State) (from to : ℕ) → lagAnswer run s from to .refusal ≡ 0 → pairIn s from to .heard ≤ largestSerial
     → (natAbs (lagAnswer run s from to .lag) < half) × ((lastSent (pairIn s from to) + wrapped (lagAnswer run s from to .lag)) % serials ≡ pairIn s from to .heard)
 lag-leads-from-sent-to-heard = Lags.lag-leads
+
+-- refused, it answers 0 beside its number; it is lent nothing to write
+pub refused-lag-is-0 : (run : Run) (s : State) (from to r : ℕ) → lagAnswer run s from to .refusal ≡ suc r → lagAnswer run s from to ≡ record { refusal = suc r; lag = pos 0 }
+refused-lag-is-0 = Lags.refused-lag
 
 -- "No other pair is read, judged or written": where two ledgers have the same counts, and the same entry for each ordered pair of different sites of the run,
 -- every step and every query is answered alike; a step sets no entry but that of its link, and a fresh start those of the run's links
