@@ -1,6 +1,5 @@
 pub mod Calls
 pub mod Entry
-pub mod Judging
 pub mod Lent
 pub mod OnLedger
 pub mod Passing

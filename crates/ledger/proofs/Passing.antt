@@ -22,11 +22,11 @@ use denote.Steps.{nothing, owned}
 use denote.Triple.Spec.{tripleOf}
 use denote.Triple.Statement.{Contract}
 use denote.Triple.Walked.{says}
-use Rattle.ledger.specs.declared.links.Link.{Link}
-use Rattle.ledger.proofs.links.Link as K
-use Rattle.ledger.proofs.links.Link.Laws as K′
-use Rattle.ledger.proofs.links.first_link as first-link
-use Rattle.ledger.proofs.links.next_link as next-link
+use Rattle.links.specs.declared.turns.Link.{Link}
+use Rattle.links.proofs.turns.Link as K
+use Rattle.links.proofs.turns.Link.Laws as K′
+use Rattle.links.proofs.first_link as first-link
+use Rattle.links.proofs.next_link as next-link
 
 abbrev pub Kr : RattleType
 Kr = K.the-row

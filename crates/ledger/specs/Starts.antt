@@ -3,18 +3,11 @@
 use Prim.Native.Nat.{ℕ}
 use mathlib.Core.Path.{_≡_, refl}
 use mathlib.Core.Bool.{Bool, true, false, cond}
-use Rattle.rules.specs.declared.Counts.{Counts}
 use Rattle.rules.specs.declared.Ledger.{Ledger}
 use Rattle.rules.specs.meaning.Links.{overRows, linksBegun}
 use Rattle.rules.specs.meaning.Ledgers.{noCounts, startedIf}
 
-abbrev pub emptiedIf : Bool → Counts → Counts
-emptiedIf wanted c = cond wanted noCounts c
-
-abbrev pub sitesToStart : Bool → ℕ → ℕ
-sitesToStart wanted sites = cond wanted sites 0
-
-pub started-if : (wanted : Bool) (sites first : ℕ) (l : Ledger) → record { counts = emptiedIf wanted (l .counts); pairs = linksBegun (sitesToStart wanted sites) first (l .pairs) } ≡ startedIf wanted sites first l
+pub started-if : (wanted : Bool) (sites first : ℕ) (l : Ledger) → record { counts = cond wanted noCounts (l .counts); pairs = linksBegun (cond wanted sites 0) first (l .pairs) } ≡ startedIf wanted sites first l
 unfolding startedIf linksBegun overRows
 started-if true sites first l = refl
 started-if false sites first l = refl

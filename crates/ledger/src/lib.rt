@@ -1,27 +1,14 @@
 // The ledger: the counts, and an entry for each link of a run. What each means is said in `specs/` of the crate `rules`.
 // Here the ledger is lent: it is looked into, stored to and passed on, and no function copies the entries. What is decided is decided by value,
-// in the modules, where no proof by hand is needed.
-mod counting;
-mod links;
-mod pairs;
-mod serial;
-
-use crate::counting::emptied;
-use crate::counting::raised;
-use crate::links::first_link;
-use crate::links::next_link;
-use crate::links::sites_of;
-use crate::links::sites_to_start;
-use crate::pairs::is_sound;
-use crate::pairs::start_pair;
-pub use counting::sound;
-pub use links::link_between;
-pub use pairs::heard_pair;
-pub use pairs::incomparable;
-pub use pairs::lag_of;
-pub use pairs::lag_undefined;
-pub use pairs::sent_pair;
-pub use pairs::silent;
+// in the crates `counts` and `links`, where no proof by hand is needed.
+use counts::emptied;
+use counts::raised;
+use links::first_link;
+use links::next_link;
+use links::pair_sound;
+use links::sites_of;
+use links::sites_to_start;
+use links::start_pair;
 use rules::ENTRIES;
 use rules::Ledger;
 use rules::Pair;
@@ -58,7 +45,7 @@ fn links_sound(ledger: &Ledger, sites: u64) -> bool
     let mut link = first_link(n);
     while link.from < n {
         let at = 16 * link.from + link.to;
-        let right = is_sound(ledger.pairs[at]);
+        let right = pair_sound(ledger.pairs[at]);
         link = next_link(link, n);
         good = good & right;
     }

@@ -9,7 +9,7 @@ use crate::posts::on_lose;
 use crate::posts::on_send;
 use crate::verdict::Verdict;
 use crate::verdict::refuse;
-use ledger::link_between;
+use links::link_between;
 use rules::NO_LINK;
 use rules::Parcel;
 use rules::Run;

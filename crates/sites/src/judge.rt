@@ -57,7 +57,7 @@ fn all_sound(words: &[u64], run: Run, seen: Sight) -> bool
     let books = seen.books;
     if tables_sound(words, run.sites as usize, 2 * run.capacity as usize) {
         if scan.sound {
-            if ledger::sound(books.counts, scan.waiting) {
+            if counts::sound(books.counts, scan.waiting) {
                 return books.sound;
             }
         }

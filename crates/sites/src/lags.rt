@@ -1,8 +1,8 @@
 // The lag query, by value but for the words: it is judged like a step, and has its own tests after that.
 use crate::judge::judge_seen;
-use ledger::lag_of;
-use ledger::lag_undefined;
-use ledger::silent;
+use links::lag_of;
+use links::lag_undefined;
+use links::silent;
 use rules::Lag;
 use rules::Run;
 use rules::Scan;

@@ -4,7 +4,7 @@ use crate::verdict::Verdict;
 use crate::verdict::no_pair;
 use crate::verdict::no_parcel;
 use crate::verdict::refuse;
-use ledger::sent_pair;
+use links::sent_pair;
 use parcels::is_occupied;
 use rules::Found;
 use rules::M;

@@ -51,10 +51,10 @@ use Rattle.ledger.proofs.Entry.{Lr, Pr, p-val, p-vals, p-tells, p-makes
 use Rattle.rules.proofs.Counts as C₀
 use Rattle.rules.proofs.Counts.Laws as C′
 use Rattle.rules.proofs.Pair.Laws as P′
-use Rattle.ledger.proofs.counting.raised as raised
-use Rattle.ledger.proofs.counting.raised.Symbol as raised-def
-use Rattle.ledger.proofs.counting.raised.Symbol.{name as #ledger·counting·raised}
-use Rattle.ledger.proofs.counting.raised.Met as raised-thm
+use Rattle.counts.proofs.raised as raised
+use Rattle.counts.proofs.raised.Symbol as raised-def
+use Rattle.counts.proofs.raised.Symbol.{name as #counts·raised}
+use Rattle.counts.proofs.raised.Met as raised-thm
 use Rattle.ledger.proofs.book.Key.{name as #ledger·book}
 use Rattle.ledger.proofs.book as book
 use Rattle.ledger.proofs.book.Statement as stated
@@ -104,7 +104,7 @@ module _ {M : Type 1} (𝓤 : URA M) (H : Heap 𝓤) (A : Atoms 𝓤) (W : Given
       suffices ! _ (ends-at 𝓤 H A book.ended stayed (book.clauses 𝓤 H A at-mem run) W (((κ, tt), (q, tt), tt, x, at), tt) vunit tt (l, (tt, (tt, (tt, tt)))) (tt, (tt, (tt, (tt, tt))))) $ says ! e $
       nothing ! $ move ! (2 ∷ 0 ∷ []) $ join ! $ frame ! $ fjoin ! $ frame ! $ feqI ! (List Val) (vunit ∷ []) (vunit ∷ []) refl $ done !
 
-  module _ (C : Calls 𝓤 H) (Λ : Loops 𝓤 H) (fm : FmC 𝓤 H (W .laws) C) (known : Triple 𝓤 (C #ledger·counting·raised) (Raised 𝓤 H A at-mem run)) (gn : n < 2 ^ 64) (gi : i < 2 ^ 64) (gp : Is Pr p (p-vals p)) where
+  module _ (C : Calls 𝓤 H) (Λ : Loops 𝓤 H) (fm : FmC 𝓤 H (W .laws) C) (known : Triple 𝓤 (C #counts·raised) (Raised 𝓤 H A at-mem run)) (gn : n < 2 ^ 64) (gi : i < 2 ^ 64) (gp : Is Pr p (p-vals p)) where
     module _ (c : Counts) (counts-are : c ≡ raisedCounts Most n (h .counts)) (l₀ l₁ l₂ l₃ l₄ l₅ l₆ l₇ l₈ l₉ l₁₀ : ℕ) where
       abbrev h₁ : Ledger
       h₁ = with-counts h c
@@ -171,12 +171,12 @@ module _ {M : Type 1} (𝓤 : URA M) (H : Heap 𝓤) (A : Atoms 𝓤) (W : Given
         branched c e l₀ l₁ l₂ l₃ l₄ l₅ l₆ l₇ l₈ l₉ l₁₀ len)))))))))))))))
 
 module _ {M : Type 1} (𝓤 : URA M) (H : Heap 𝓤) (A : Atoms 𝓤) (W : Given 𝓤 H A) (at-mem : Memory → SProp 𝓤) (run : Routine → Fun 𝓤) where
-  walks : (C : Calls 𝓤 H) (Λ : Loops 𝓤 H) → FmC 𝓤 H (W .laws) C → Triple 𝓤 (C #ledger·counting·raised) (Raised 𝓤 H A at-mem run) → Walks 𝓤 H A book.ended stayed (WpFn 𝓤 H C Λ code.function) (book.clauses 𝓤 H A at-mem run)
+  walks : (C : Calls 𝓤 H) (Λ : Loops 𝓤 H) → FmC 𝓤 H (W .laws) C → Triple 𝓤 (C #counts·raised) (Raised 𝓤 H A at-mem run) → Walks 𝓤 H A book.ended stayed (WpFn 𝓤 H C Λ code.function) (book.clauses 𝓤 H A at-mem run)
   walks C Λ fm known = walked 𝓤 H A book.ended stayed (book.clauses 𝓤 H A at-mem run) (WpFn 𝓤 H C Λ code.function) (λ κs. (ptr-vals, (uint-vals w64, (uint-vals w64, (p-vals, tt))))) (λ κs. (mut-tells (named 0) (κs .0) Lr, (uint-tells w64, (uint-tells w64, (p-tells, tt)))))
       (λ κs qs bounds a g are. via 𝓤 _ (fst∗ 𝓤 _ (emp 𝓤))
       (walk 𝓤 H A W at-mem run (κs .0) (qs .0) (a .0 .ptr .0) (a .0 .ptr .1) (a .0 .name) (a .0 .now) (a .1 .0) (a .1 .1 .0) (a .1 .1 .1 .0) C Λ fm known (are .1 .0 .1) (are .1 .1 .0 .1) (are .1 .1 .1 .0)))
 
-meets : {M : Type 1} (𝓤 : URA M) (H : Heap 𝓤) (A : Atoms 𝓤) → Given 𝓤 H A → (at-mem : Memory → SProp 𝓤) (run : Routine → Fun 𝓤) (𝓣 : Tables 𝓤 H) → Triple 𝓤 (𝓣 .C #ledger·counting·raised) (Raised 𝓤 H A at-mem run)
+meets : {M : Type 1} (𝓤 : URA M) (H : Heap 𝓤) (A : Atoms 𝓤) → Given 𝓤 H A → (at-mem : Memory → SProp 𝓤) (run : Routine → Fun 𝓤) (𝓣 : Tables 𝓤 H) → Triple 𝓤 (𝓣 .C #counts·raised) (Raised 𝓤 H A at-mem run)
     → Meets 𝓤 H A book.signature (WpFn 𝓤 H (𝓣 .C) (𝓣 .Λ) code.function) (book.spec 𝓤 H A at-mem run)
 meets 𝓤 H A W at-mem run 𝓣 known =
     walk-meets 𝓤 H A book.ended stayed W (goes-ref 𝓤 H A W 1 0 tt (plain (λ _. Lr)), (goes-none 𝓤 H A W 1 (λ _. u64) yes (λ κs x f. refl), (goes-none 𝓤 H A W 1 (λ _. usize) yes (λ κs x f. refl), (goes-none 𝓤 H A W 1 (λ _. Pr) yes (λ κs x f. refl), tt))))
@@ -188,4 +188,4 @@ book-spec 𝓤 H 𝓜 𝓖 𝓡 =
     entered 𝓤 H (tripleOf 𝓤 H (𝓖 .A) book.signature (book.spec 𝓤 H (𝓖 .A) (𝓜 .mem) (𝓡 .run)))
     (tables 𝓤 H 𝓜 𝓡 code.env .C) (tables 𝓤 H 𝓜 𝓡 code.env .Λ) #ledger·book code.function (code.unfolded 𝓤 H 𝓜 𝓡)
     (meets 𝓤 H (𝓖 .A) (givenOf 𝓤 H 𝓜 𝓖) (𝓜 .mem) (𝓡 .run) (tablesOf 𝓤 H 𝓜 (tables 𝓤 H 𝓜 𝓡 code.env))
-    (cited 𝓤 H (Raised 𝓤 H (𝓖 .A) (𝓜 .mem) (𝓡 .run)) 𝓜 𝓡 code.env #ledger·counting·raised raised-def.routine code.calls-ledger·counting·raised (raised-thm.met 𝓤 H 𝓜 𝓖 𝓡)))
+    (cited 𝓤 H (Raised 𝓤 H (𝓖 .A) (𝓜 .mem) (𝓡 .run)) 𝓜 𝓡 code.env #counts·raised raised-def.routine code.calls-counts·raised (raised-thm.met 𝓤 H 𝓜 𝓖 𝓡)))

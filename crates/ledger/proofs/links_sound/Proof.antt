@@ -46,9 +46,9 @@ use denote.Triple.Walked.{says, Stays, stay-none-ref, stay-none, walkOf, Walks, 
 use borrow.Author.Tests.{ltb-true, ltb-false}
 use Rattle.rules.specs.declared.Pair.{Pair}
 use Rattle.rules.specs.declared.Ledger.{Ledger}
-use Rattle.ledger.specs.declared.links.Link.{Link}
+use Rattle.links.specs.declared.turns.Link.{Link}
 use Rattle.rules.specs.meaning.Links.{noPair, place, linked, pairSound, judged, overRows, linksSound}
-use Rattle.ledger.specs.Turns.{firstLink, nextLink, soFar, Stands, on-of, stands-first, stands-next, at-first, at-end, further, done-next}
+use Rattle.links.specs.Turns.{firstLink, nextLink, soFar, Stands, on-of, stands-first, stands-next, at-first, at-end, further, done-next}
 use Rattle.ledger.proofs.Calls.{calls-value}
 use Rattle.ledger.proofs.Lent.{ref, typed, told, is-at}
 use Rattle.ledger.proofs.Within.{peers-in, peers-out, cuts, mends, elems, unelems}
@@ -56,25 +56,25 @@ use Rattle.ledger.proofs.Entry.{Lr, Pr, p-vals, p-tells, p-makes, p-typ
 use Rattle.ledger.proofs.Passing.{Kr, k-val, k-vals, FirstLink, to-first, asked-first, NextLink, to-next, asked-next}
 use Rattle.rules.proofs.Ledger as L
 use Rattle.rules.proofs.Ledger.Laws as L′
-use Rattle.ledger.proofs.links.Link as K
-use Rattle.ledger.proofs.links.Link.Laws as K′
+use Rattle.links.proofs.turns.Link as K
+use Rattle.links.proofs.turns.Link.Laws as K′
 use Rattle.rules.proofs.Pair.Laws as P′
-use Rattle.ledger.proofs.links.sites_of as sites-of
-use Rattle.ledger.proofs.links.sites_of.Symbol as sites-of-def
-use Rattle.ledger.proofs.links.sites_of.Symbol.{name as #ledger·links·sites-of}
-use Rattle.ledger.proofs.links.sites_of.Met as sites-of-thm
-use Rattle.ledger.proofs.links.first_link as first-link
-use Rattle.ledger.proofs.links.first_link.Symbol as first-link-def
-use Rattle.ledger.proofs.links.first_link.Symbol.{name as #ledger·links·first-link}
-use Rattle.ledger.proofs.links.first_link.Met as first-link-thm
-use Rattle.ledger.proofs.links.next_link as next-link
-use Rattle.ledger.proofs.links.next_link.Symbol as next-link-def
-use Rattle.ledger.proofs.links.next_link.Symbol.{name as #ledger·links·next-link}
-use Rattle.ledger.proofs.links.next_link.Met as next-link-thm
-use Rattle.ledger.proofs.pairs.is_sound as is-sound
-use Rattle.ledger.proofs.pairs.is_sound.Symbol as is-sound-def
-use Rattle.ledger.proofs.pairs.is_sound.Symbol.{name as #ledger·pairs·is-sound}
-use Rattle.ledger.proofs.pairs.is_sound.Met as is-sound-thm
+use Rattle.links.proofs.sites_of as sites-of
+use Rattle.links.proofs.sites_of.Symbol as sites-of-def
+use Rattle.links.proofs.sites_of.Symbol.{name as #links·sites-of}
+use Rattle.links.proofs.sites_of.Met as sites-of-thm
+use Rattle.links.proofs.first_link as first-link
+use Rattle.links.proofs.first_link.Symbol as first-link-def
+use Rattle.links.proofs.first_link.Symbol.{name as #links·first-link}
+use Rattle.links.proofs.first_link.Met as first-link-thm
+use Rattle.links.proofs.next_link as next-link
+use Rattle.links.proofs.next_link.Symbol as next-link-def
+use Rattle.links.proofs.next_link.Symbol.{name as #links·next-link}
+use Rattle.links.proofs.next_link.Met as next-link-thm
+use Rattle.links.proofs.pair_sound as pair-sound
+use Rattle.links.proofs.pair_sound.Symbol as pair-sound-def
+use Rattle.links.proofs.pair_sound.Symbol.{name as #links·pair-sound}
+use Rattle.links.proofs.pair_sound.Met as pair-sound-thm
 use Rattle.ledger.proofs.links_sound.Key.{name as #ledger·links-sound}
 use Rattle.ledger.proofs.links_sound as links-sound
 use Rattle.ledger.proofs.links_sound.Statement as stated
@@ -125,7 +125,7 @@ module _ (ps : List Pair) (n : ℕ) where
   abbrev here : State → Pair
   here t = getD ps (place (t .link .from) (t .link .to)) noPair
 
-  -- the state after a turn, where r is what `is_sound` returned and l what `next_link` did
+  -- the state after a turn, where r is what `pair_sound` returned and l what `next_link` did
   abbrev turned : (t : State) → t .link .from < n → (r : Bool) → r ≡ pairSound (here t) → (l : Link) → l ≡ nextLink n (t .link) → Is Kr l (k-vals l) → State
   turned t less r e l next is′ = record {
     link = l;
@@ -150,21 +150,21 @@ module _ {M : Type 1} (𝓤 : URA M) (H : Heap 𝓤) (A : Atoms 𝓤) (at-mem : 
   asked-sites : Given 𝓤 H A → (s : ℕ) → s < 2 ^ 64 → ent 𝓤 (emp 𝓤) (SitesOf .pre (to-sites s))
   asked-sites W s gs = qed W [] ∵ nothing ! $ nothing ! $ owned ! u64 (Is u64) (uint-makes 𝓤 H A W w64) s _ (refl, gs) $ fjoin ! $ nothing ! $ join ! $ frame ! $ done !
 
-  abbrev IsSound : Contract 𝓤
-  IsSound = tripleOf 𝓤 H A is-sound.signature (is-sound.spec 𝓤 H A at-mem run)
+  abbrev PairSound : Contract 𝓤
+  PairSound = tripleOf 𝓤 H A pair-sound.signature (pair-sound.spec 𝓤 H A at-mem run)
 
-  abbrev to-sound : Pair → IsSound .Ghost
+  abbrev to-sound : Pair → PairSound .Ghost
   to-sound p = ((tt, tt, tt, (p, tt), (p-vals p, tt)), tt)
 
-  asked-sound : Given 𝓤 H A → (p : Pair) → Is Pr p (p-vals p) → ent 𝓤 (emp 𝓤) (IsSound .pre (to-sound p))
+  asked-sound : Given 𝓤 H A → (p : Pair) → Is Pr p (p-vals p) → ent 𝓤 (emp 𝓤) (PairSound .pre (to-sound p))
   asked-sound W p gp = qed W [] ∵ nothing ! $ nothing ! $ owned ! Pr (Is Pr) (p-makes 𝓤 H A) p _ gp $ fjoin ! $ nothing ! $ join ! $ frame ! $ done !
 
   -- that each is what the table of calls has
   record Known (𝓣 : Tables 𝓤 H) : Type 2 where
-    sites : Triple 𝓤 (𝓣 .C #ledger·links·sites-of) SitesOf
-    begins : Triple 𝓤 (𝓣 .C #ledger·links·first-link) (FirstLink 𝓤 H A at-mem run)
-    next : Triple 𝓤 (𝓣 .C #ledger·links·next-link) (NextLink 𝓤 H A at-mem run)
-    sound : Triple 𝓤 (𝓣 .C #ledger·pairs·is-sound) IsSound
+    sites : Triple 𝓤 (𝓣 .C #links·sites-of) SitesOf
+    begins : Triple 𝓤 (𝓣 .C #links·first-link) (FirstLink 𝓤 H A at-mem run)
+    next : Triple 𝓤 (𝓣 .C #links·next-link) (NextLink 𝓤 H A at-mem run)
+    sound : Triple 𝓤 (𝓣 .C #links·pair-sound) PairSound
 
 module _ {M : Type 1} (𝓤 : URA M) (H : Heap 𝓤) (A : Atoms 𝓤) (W : Given 𝓤 H A) (at-mem : Memory → SProp 𝓤) (run : Routine → Fun 𝓤) (κ : Lft) (q : Share) (b o : ℕ) (γ : GName) (h : Ledger) (s : ℕ) where
   abbrev x : RefT Ledger × (ℕ × Unit {0})
@@ -227,7 +227,7 @@ module _ {M : Type 1} (𝓤 : URA M) (H : Heap 𝓤) (A : Atoms 𝓤) (W : Given
           assigns ! (of-opd ! (load ! (from ! (hop ! (look ! 10 refl) (stop !))) (look-raw ! 0 refl))) (from ! (stop !)) (init ! 8 refl (p-typed 𝓤 H A W (here (h .pairs) n t) g)) $
           elem-back ! Pr q′ (h .pairs) i noPair (p-vals (here (h .pairs) n t)) b (o + 32) there $ unelems ! Pr q′ 256 (h .pairs) b (o + 32) len $ mends ! q′ Lr (Array Pr 256) 32 h (h .pairs) b o $ peers-out ! tt Lr b o h q′ $
           -- the context is `At` again, with the locals of the turn in use. The calls
-          calls-value ! (fmOf 𝓤 H (W .laws) 𝓣) is-sound.ended (is-sound.clauses 𝓤 H A at-mem run) (known .sound) (to-sound 𝓤 H A at-mem run (here (h .pairs) n t)) (asked-sound 𝓤 H A at-mem run W (here (h .pairs) n t) g) (λ r. r ≡ pairSound (here (h .pairs) n t)) (λ r e. id⊢ 𝓤 _)
+          calls-value ! (fmOf 𝓤 H (W .laws) 𝓣) pair-sound.ended (pair-sound.clauses 𝓤 H A at-mem run) (known .sound) (to-sound 𝓤 H A at-mem run (here (h .pairs) n t)) (asked-sound 𝓤 H A at-mem run W (here (h .pairs) n t) g) (λ r. r ≡ pairSound (here (h .pairs) n t)) (λ r e. id⊢ 𝓤 _)
           (and-then ! (load ! (from ! (stop !)) (look ! 4 refl)) (no-more !)) (λ r v e is.
           land ! (from ! (stop !)) (init ! 13 refl (b-typed r v is)) $ rewrite ! 13 (λ (u : Val). ‵ (fat fullShare tyBool l₇ 0 u)) (b-at r v is) refl $
           calls-value ! (fmOf 𝓤 H (W .laws) 𝓣) next-link.ended (next-link.clauses 𝓤 H A at-mem run) (known .next) (to-next 𝓤 H A at-mem run (t .link) n) (asked-next 𝓤 H A at-mem run W (t .link) n (t .is) n-fits low) (λ k. k ≡ nextLink n (t .link)) (λ r e. id⊢ 𝓤 _)
@@ -317,8 +317,8 @@ links-sound-spec 𝓤 H 𝓜 𝓖 𝓡 =
     entered 𝓤 H (tripleOf 𝓤 H (𝓖 .A) links-sound.signature (links-sound.spec 𝓤 H (𝓖 .A) (𝓜 .mem) (𝓡 .run)))
     (tables 𝓤 H 𝓜 𝓡 code.env .C) (tables 𝓤 H 𝓜 𝓡 code.env .Λ) #ledger·links-sound code.function (code.unfolded 𝓤 H 𝓜 𝓡)
     (meets 𝓤 H (𝓖 .A) (givenOf 𝓤 H 𝓜 𝓖) (𝓜 .mem) (𝓡 .run) (tablesOf 𝓤 H 𝓜 (tables 𝓤 H 𝓜 𝓡 code.env)) (record {
-      sites = cited 𝓤 H (SitesOf 𝓤 H (𝓖 .A) (𝓜 .mem) (𝓡 .run)) 𝓜 𝓡 code.env #ledger·links·sites-of sites-of-def.routine code.calls-ledger·links·sites-of (sites-of-thm.met 𝓤 H 𝓜 𝓖 𝓡);
-      begins = cited 𝓤 H (FirstLink 𝓤 H (𝓖 .A) (𝓜 .mem) (𝓡 .run)) 𝓜 𝓡 code.env #ledger·links·first-link first-link-def.routine code.calls-ledger·links·first-link (first-link-thm.met 𝓤 H 𝓜 𝓖 𝓡);
-      next = cited 𝓤 H (NextLink 𝓤 H (𝓖 .A) (𝓜 .mem) (𝓡 .run)) 𝓜 𝓡 code.env #ledger·links·next-link next-link-def.routine code.calls-ledger·links·next-link (next-link-thm.met 𝓤 H 𝓜 𝓖 𝓡);
-      sound = cited 𝓤 H (IsSound 𝓤 H (𝓖 .A) (𝓜 .mem) (𝓡 .run)) 𝓜 𝓡 code.env #ledger·pairs·is-sound is-sound-def.routine code.calls-ledger·pairs·is-sound (is-sound-thm.met 𝓤 H 𝓜 𝓖 𝓡);
+      sites = cited 𝓤 H (SitesOf 𝓤 H (𝓖 .A) (𝓜 .mem) (𝓡 .run)) 𝓜 𝓡 code.env #links·sites-of sites-of-def.routine code.calls-links·sites-of (sites-of-thm.met 𝓤 H 𝓜 𝓖 𝓡);
+      begins = cited 𝓤 H (FirstLink 𝓤 H (𝓖 .A) (𝓜 .mem) (𝓡 .run)) 𝓜 𝓡 code.env #links·first-link first-link-def.routine code.calls-links·first-link (first-link-thm.met 𝓤 H 𝓜 𝓖 𝓡);
+      next = cited 𝓤 H (NextLink 𝓤 H (𝓖 .A) (𝓜 .mem) (𝓡 .run)) 𝓜 𝓡 code.env #links·next-link next-link-def.routine code.calls-links·next-link (next-link-thm.met 𝓤 H 𝓜 𝓖 𝓡);
+      sound = cited 𝓤 H (PairSound 𝓤 H (𝓖 .A) (𝓜 .mem) (𝓡 .run)) 𝓜 𝓡 code.env #links·pair-sound pair-sound-def.routine code.calls-links·pair-sound (pair-sound-thm.met 𝓤 H 𝓜 𝓖 𝓡);
     }))

@@ -4,7 +4,7 @@
 use mathlib.Core.Path.{_≡_, refl, sym, _∙_, ap, subst}
 use Prim.Native.Nat.{ℕ, _+_, _*_, _-_, _≤_, _<_, _^_}
 use native.Mathlib.Omega.{arith}
-use mathlib.Core.Bool.{Bool, true, false}
+use mathlib.Core.Bool.{Bool, true, false, cond}
 use mathlib.Core.List.{List, [], _∷_}
 use mathlib.Core.WellFounded.{WellFounded, InvImage·wf}
 use lib.Dec.{ltb}
@@ -46,10 +46,11 @@ use borrow.Author.Tests.{ltb-true, ltb-false}
 use Rattle.rules.specs.declared.Counts.{Counts}
 use Rattle.rules.specs.declared.Pair.{Pair}
 use Rattle.rules.specs.declared.Ledger.{Ledger}
-use Rattle.ledger.specs.declared.links.Link.{Link}
+use Rattle.links.specs.declared.turns.Link.{Link}
 use Rattle.rules.specs.meaning.Links.{noPair, startPair, place, linked, begun, overRows, linksBegun}
-use Rattle.ledger.specs.Starts.{emptiedIf, sitesToStart, started-if}
-use Rattle.ledger.specs.Turns.{firstLink, nextLink, soFar, Stands, on-of, stands-first, stands-next, at-first, at-end, further, done-next}
+use Rattle.rules.specs.meaning.Ledgers.{noCounts}
+use Rattle.ledger.specs.Starts.{started-if}
+use Rattle.links.specs.Turns.{firstLink, nextLink, soFar, Stands, on-of, stands-first, stands-next, at-first, at-end, further, done-next}
 use Rattle.ledger.proofs.Calls.{calls-value}
 use Rattle.ledger.proofs.Lent.{ref, typed, told, is-at}
 use Rattle.ledger.proofs.Within.{unbolts, bolts, cuts, mends, elems, unelems, cell, uncell}
@@ -57,30 +58,30 @@ use Rattle.ledger.proofs.Entry.{Lr, Pr, p-val, p-vals, p-tells, p-makes
 use Rattle.ledger.proofs.Passing.{Kr, k-val, k-vals, FirstLink, to-first, asked-first, NextLink, to-next, asked-next}
 use Rattle.rules.proofs.Counts as C₀
 use Rattle.rules.proofs.Counts.Laws as C′
-use Rattle.ledger.proofs.links.Link as K
-use Rattle.ledger.proofs.links.Link.Laws as K′
+use Rattle.links.proofs.turns.Link as K
+use Rattle.links.proofs.turns.Link.Laws as K′
 use Rattle.rules.proofs.Pair as P
 use Rattle.rules.proofs.Pair.Laws as P′
-use Rattle.ledger.proofs.counting.emptied as emptied
-use Rattle.ledger.proofs.counting.emptied.Symbol as emptied-def
-use Rattle.ledger.proofs.counting.emptied.Symbol.{name as #ledger·counting·emptied}
-use Rattle.ledger.proofs.counting.emptied.Met as emptied-thm
-use Rattle.ledger.proofs.links.sites_to_start as sites-to-start
-use Rattle.ledger.proofs.links.sites_to_start.Symbol as sites-to-start-def
-use Rattle.ledger.proofs.links.sites_to_start.Symbol.{name as #ledger·links·sites-to-start}
-use Rattle.ledger.proofs.links.sites_to_start.Met as sites-to-start-thm
-use Rattle.ledger.proofs.links.first_link as first-link
-use Rattle.ledger.proofs.links.first_link.Symbol as first-link-def
-use Rattle.ledger.proofs.links.first_link.Symbol.{name as #ledger·links·first-link}
-use Rattle.ledger.proofs.links.first_link.Met as first-link-thm
-use Rattle.ledger.proofs.links.next_link as next-link
-use Rattle.ledger.proofs.links.next_link.Symbol as next-link-def
-use Rattle.ledger.proofs.links.next_link.Symbol.{name as #ledger·links·next-link}
-use Rattle.ledger.proofs.links.next_link.Met as next-link-thm
-use Rattle.ledger.proofs.pairs.start_pair as start-pair
-use Rattle.ledger.proofs.pairs.start_pair.Symbol as start-pair-def
-use Rattle.ledger.proofs.pairs.start_pair.Symbol.{name as #ledger·pairs·start-pair}
-use Rattle.ledger.proofs.pairs.start_pair.Met as start-pair-thm
+use Rattle.counts.proofs.emptied as emptied
+use Rattle.counts.proofs.emptied.Symbol as emptied-def
+use Rattle.counts.proofs.emptied.Symbol.{name as #counts·emptied}
+use Rattle.counts.proofs.emptied.Met as emptied-thm
+use Rattle.links.proofs.sites_to_start as sites-to-start
+use Rattle.links.proofs.sites_to_start.Symbol as sites-to-start-def
+use Rattle.links.proofs.sites_to_start.Symbol.{name as #links·sites-to-start}
+use Rattle.links.proofs.sites_to_start.Met as sites-to-start-thm
+use Rattle.links.proofs.first_link as first-link
+use Rattle.links.proofs.first_link.Symbol as first-link-def
+use Rattle.links.proofs.first_link.Symbol.{name as #links·first-link}
+use Rattle.links.proofs.first_link.Met as first-link-thm
+use Rattle.links.proofs.next_link as next-link
+use Rattle.links.proofs.next_link.Symbol as next-link-def
+use Rattle.links.proofs.next_link.Symbol.{name as #links·next-link}
+use Rattle.links.proofs.next_link.Met as next-link-thm
+use Rattle.links.proofs.start_pair as start-pair
+use Rattle.links.proofs.start_pair.Symbol as start-pair-def
+use Rattle.links.proofs.start_pair.Symbol.{name as #links·start-pair}
+use Rattle.links.proofs.start_pair.Met as start-pair-thm
 use Rattle.ledger.proofs.start.Key.{name as #ledger·start}
 use Rattle.ledger.proofs.start as start
 use Rattle.ledger.proofs.start.Statement as stated
@@ -182,11 +183,11 @@ module _ {M : Type 1} (𝓤 : URA M) (H : Heap 𝓤) (A : Atoms 𝓤) (at-mem : 
 
   -- that each is what the table of calls has
   record Known (𝓣 : Tables 𝓤 H) : Type 2 where
-    empties : Triple 𝓤 (𝓣 .C #ledger·counting·emptied) Emptied
-    sites : Triple 𝓤 (𝓣 .C #ledger·links·sites-to-start) SitesToStart
-    pair : Triple 𝓤 (𝓣 .C #ledger·pairs·start-pair) StartPair
-    begins : Triple 𝓤 (𝓣 .C #ledger·links·first-link) (FirstLink 𝓤 H A at-mem run)
-    next : Triple 𝓤 (𝓣 .C #ledger·links·next-link) (NextLink 𝓤 H A at-mem run)
+    empties : Triple 𝓤 (𝓣 .C #counts·emptied) Emptied
+    sites : Triple 𝓤 (𝓣 .C #links·sites-to-start) SitesToStart
+    pair : Triple 𝓤 (𝓣 .C #links·start-pair) StartPair
+    begins : Triple 𝓤 (𝓣 .C #links·first-link) (FirstLink 𝓤 H A at-mem run)
+    next : Triple 𝓤 (𝓣 .C #links·next-link) (NextLink 𝓤 H A at-mem run)
 
 module _ {M : Type 1} (𝓤 : URA M) (H : Heap 𝓤) (A : Atoms 𝓤) (W : Given 𝓤 H A) (at-mem : Memory → SProp 𝓤) (run : Routine → Fun 𝓤) (κ : Lft) (q : Share) (b o : ℕ) (γ : GName) (h : Ledger) (wanted : Bool) (s f : ℕ) where
   abbrev x : RefT Ledger × (Bool × (ℕ × (ℕ × Unit {0})))
@@ -204,7 +205,7 @@ module _ {M : Type 1} (𝓤 : URA M) (H : Heap 𝓤) (A : Atoms 𝓤) (W : Given
   abbrev Rest : Item 𝓤
   Rest = ‵ (fsep (bool .own wanted (vbool wanted ∷ [])) (fsep (u64 .own s (vint w64 s ∷ [])) (fsep (u32 .own f (vint w32 f ∷ [])) ftrue)))
 
-  exits : (c : Counts) → c ≡ emptiedIf wanted (h .counts) → (ps : List Pair) → ps ≡ linksBegun (sitesToStart wanted s) f (h .pairs) → ent 𝓤 (⋆ 𝓤 H A (Lent c ps ∷ ‵ (flft κ q) ∷ Rest ∷ [])) (Post vunit)
+  exits : (c : Counts) → c ≡ cond wanted noCounts (h .counts) → (ps : List Pair) → ps ≡ linksBegun (cond wanted s 0) f (h .pairs) → ent 𝓤 (⋆ 𝓤 H A (Lent c ps ∷ ‵ (flft κ q) ∷ Rest ∷ [])) (Post vunit)
   exits c e ps e′ =
       qed W (Lent c ps ∷ ‵ (flft κ q) ∷ Rest ∷ []) ∵
       suffices ! _ (ends-at 𝓤 H A start.ended stayed (start.clauses 𝓤 H A at-mem run) W (((κ, tt), (q, tt), tt, x, at), tt) vunit tt (record { counts = c; pairs = ps }, (tt, (tt, (tt, tt)))) (tt, (tt, (tt, (tt, tt))))) $ says ! ((λ i. record { counts = e i; pairs = e′ i }) ∙ started-if wanted s f h) $
@@ -217,7 +218,7 @@ module _ {M : Type 1} (𝓤 : URA M) (H : Heap 𝓤) (A : Atoms 𝓤) (W : Given
     abbrev Λ : Loops 𝓤 H
     Λ = 𝓣 .Λ
 
-    module _ (c : Counts) (cleared : c ≡ emptiedIf wanted (h .counts)) (n : ℕ) (sized : n ≡ linked (sitesToStart wanted s)) (gp : Is Pr (startPair f) (p-vals (startPair f))) (l₀ l₁ l₂ l₃ l₄ l₅ l₆ l₇ l₈ l₉ l₁₀ l₁₁ l₁₂ l₁₃ l₁₄ l₁₅ : ℕ) where
+    module _ (c : Counts) (cleared : c ≡ cond wanted noCounts (h .counts)) (n : ℕ) (sized : n ≡ linked (cond wanted s 0)) (gp : Is Pr (startPair f) (p-vals (startPair f))) (l₀ l₁ l₂ l₃ l₄ l₅ l₆ l₇ l₈ l₉ l₁₀ l₁₁ l₁₂ l₁₃ l₁₄ l₁₅ : ℕ) where
       abbrev En : Env 𝓤 H
       En = (tyUnit, l₀) ∷ (lent, l₁) ∷ (tyBool, l₂) ∷ (word, l₃) ∷ (serial, l₄) ∷ (C′.mir, l₅) ∷ (C′.mir, l₆) ∷ (word, l₇) ∷ (P′.mir, l₈) ∷ (K′.mir, l₉) ∷ (word, l₁₀) ∷ (K′.mir, l₁₁) ∷ (tyBool, l₁₂) ∷ (word, l₁₃) ∷ (tyPtr, l₁₄) ∷ (tyPtr, l₁₅) ∷ []
 
@@ -304,8 +305,8 @@ module _ {M : Type 1} (𝓤 : URA M) (H : Heap 𝓤) (A : Atoms 𝓤) (W : Given
           move ! (33 ∷ 34 ∷ []) $ free1 ! $ move ! (31 ∷ 32 ∷ []) $ free1 ! $ move ! (29 ∷ 30 ∷ []) $ free1 ! $ move ! (27 ∷ 28 ∷ []) $ free1 ! $ move ! (25 ∷ 26 ∷ []) $ free1 ! $ move ! (23 ∷ 24 ∷ []) $ free1 ! $ move ! (21 ∷ 22 ∷ []) $ free1 ! $ move ! (19 ∷ 20 ∷ []) $ free1 ! $ move ! (17 ∷ 18 ∷ []) $ free1 ! $ move ! (15 ∷ 16 ∷ []) $ free1 ! $ move ! (13 ∷ 14 ∷ []) $ free1 ! $ move ! (11 ∷ 12 ∷ []) $ free1 ! $ move ! (9 ∷ 10 ∷ []) $ free1 ! $ move ! (7 ∷ 8 ∷ []) $ free1 ! $ move ! (5 ∷ 6 ∷ []) $ free1 ! $ move ! (3 ∷ 4 ∷ []) $ free1 ! $ free0 ! $
           keep ! (0 ∷ 1 ∷ 2 ∷ []) $ by ! (exits c cleared (t .pairs) (whole-of t (ltb-false (t .link .from) n over)))
         where
-          whole-of : (u : St) → n ≤ u .link .from → u .pairs ≡ linksBegun (sitesToStart wanted s) f (h .pairs)
-          whole-of u end = sym (u .so-far) ∙ at-end (begun f) n (u .link) (h .pairs) (u .stands) end ∙ all-rows (sitesToStart wanted s) f n (h .pairs) sized
+          whole-of : (u : St) → n ≤ u .link .from → u .pairs ≡ linksBegun (cond wanted s 0) f (h .pairs)
+          whole-of u end = sym (u .so-far) ∙ at-end (begun f) n (u .link) (h .pairs) (u .stands) end ∙ all-rows (cond wanted s 0) f n (h .pairs) sized
 
       -- the loop, and what follows it
       looped : (t : St) → Sq W (At t) (runs C Λ En mir.t-7 (atRet En Post))
@@ -322,14 +323,14 @@ module _ {M : Type 1} (𝓤 : URA M) (H : Heap 𝓤) (A : Atoms 𝓤) (W : Given
         -- [the counts; the way back; what shuts; obs; auth; the others' own; local i at 6 + 2 · (15 − i)]
         assigns ! (of-opd ! (load ! (from ! (hop ! (look ! 34 refl) (fld ! refl (stop !)))) (look-raw ! 0 refl))) (from ! (stop !)) (init ! 26 refl (c-typed 𝓤 H A W (h .counts) is)) $
         uncell ! C₀.the-type C′.the-laws C′.the-plain fullShare (h .counts) b (o + 0) is $ mends ! fullShare Lr Cr 0 h (h .counts) b o $
-        calls-value ! (fmOf 𝓤 H (W .laws) 𝓣) emptied.ended (emptied.clauses 𝓤 H A at-mem run) (known .empties) (to-emptied 𝓤 H A at-mem run (h .counts) wanted) (asked-emptied 𝓤 H A at-mem run W (h .counts) wanted is) (λ r. r ≡ emptiedIf wanted (h .counts)) (λ r e. id⊢ 𝓤 _)
+        calls-value ! (fmOf 𝓤 H (W .laws) 𝓣) emptied.ended (emptied.clauses 𝓤 H A at-mem run) (known .empties) (to-emptied 𝓤 H A at-mem run (h .counts) wanted) (asked-emptied 𝓤 H A at-mem run W (h .counts) wanted is) (λ r. r ≡ cond wanted noCounts (h .counts)) (λ r e. id⊢ 𝓤 _)
         (and-then ! (load ! (from ! (stop !)) (look ! 26 refl)) (and-then ! (load ! (from ! (stop !)) (look ! 32 refl)) (no-more !))) (λ c v cleared is′.
         land ! (from ! (stop !)) (init ! 23 refl (typed C₀.the-type C′.the-laws 𝓤 H A W c (v ∷ []) is′ .0)) $ rewrite ! 23 (λ (u : Val). ‵ (fat fullShare C′.mir l₆ 0 u)) (told C₀.the-type C′.the-laws c c v is′ refl) refl $
         cuts ! fullShare Lr Cr 0 h (with-counts h c) (h .counts) c b o (counts-cut 𝓤 H A W fullShare h c b o) $ cell ! C₀.the-type C′.the-laws fullShare (h .counts) b (o + 0) (λ _.
         assigns ! (of-opd ! (load ! (from ! (stop !)) (look ! 24 refl))) (from ! (hop ! (look ! 34 refl) (fld ! refl (stop !)))) (store-raw ! 0 refl (c-typed 𝓤 H A W c (is-at C₀.the-type C′.the-laws c c v is′ refl))) $
         uncell ! C₀.the-type C′.the-laws C′.the-plain fullShare c b (o + 0) (is-at C₀.the-type C′.the-laws c c v is′ refl) $ mends ! fullShare Lr Cr 0 (with-counts h c) c b o $ bolts ! tt Lr b o (with-counts h c) $ forget ! 21 refl $ forget ! 23 refl $
         -- [ledger; the token; the others' own; local i at 3 + 2 · (15 − i)]
-        calls-value ! (fmOf 𝓤 H (W .laws) 𝓣) sites-to-start.ended (sites-to-start.clauses 𝓤 H A at-mem run) (known .sites) (to-sites 𝓤 H A at-mem run wanted s) (asked-sites 𝓤 H A at-mem run W wanted s gs) (λ r. r ≡ linked (sitesToStart wanted s)) (λ r e. id⊢ 𝓤 _)
+        calls-value ! (fmOf 𝓤 H (W .laws) 𝓣) sites-to-start.ended (sites-to-start.clauses 𝓤 H A at-mem run) (known .sites) (to-sites 𝓤 H A at-mem run wanted s) (asked-sites 𝓤 H A at-mem run W wanted s gs) (λ r. r ≡ linked (cond wanted s 0)) (λ r e. id⊢ 𝓤 _)
         (and-then ! (load ! (from ! (stop !)) (look ! 30 refl)) (and-then ! (load ! (from ! (stop !)) (look ! 28 refl)) (no-more !))) (λ n v₁ sized is₁.
         land ! (from ! (stop !)) (init ! 19 refl (n-typed n v₁ is₁)) $ rewrite ! 19 (λ (u : Val). ‵ (fat fullShare word l₇ 0 u)) (n-at n v₁ is₁) refl $
         calls-value ! (fmOf 𝓤 H (W .laws) 𝓣) start-pair.ended (start-pair.clauses 𝓤 H A at-mem run) (known .pair) (to-pair 𝓤 H A at-mem run f) (asked-pair 𝓤 H A at-mem run W f gf) (λ r. r ≡ startPair f) (λ r e. id⊢ 𝓤 _)
@@ -358,9 +359,9 @@ start-spec 𝓤 H 𝓜 𝓖 𝓡 =
     entered 𝓤 H (tripleOf 𝓤 H (𝓖 .A) start.signature (start.spec 𝓤 H (𝓖 .A) (𝓜 .mem) (𝓡 .run)))
     (tables 𝓤 H 𝓜 𝓡 code.env .C) (tables 𝓤 H 𝓜 𝓡 code.env .Λ) #ledger·start code.function (code.unfolded 𝓤 H 𝓜 𝓡)
     (meets 𝓤 H (𝓖 .A) (givenOf 𝓤 H 𝓜 𝓖) (𝓜 .mem) (𝓡 .run) (tablesOf 𝓤 H 𝓜 (tables 𝓤 H 𝓜 𝓡 code.env)) (record {
-      empties = cited 𝓤 H (Emptied 𝓤 H (𝓖 .A) (𝓜 .mem) (𝓡 .run)) 𝓜 𝓡 code.env #ledger·counting·emptied emptied-def.routine code.calls-ledger·counting·emptied (emptied-thm.met 𝓤 H 𝓜 𝓖 𝓡);
-      sites = cited 𝓤 H (SitesToStart 𝓤 H (𝓖 .A) (𝓜 .mem) (𝓡 .run)) 𝓜 𝓡 code.env #ledger·links·sites-to-start sites-to-start-def.routine code.calls-ledger·links·sites-to-start (sites-to-start-thm.met 𝓤 H 𝓜 𝓖 𝓡);
-      pair = cited 𝓤 H (StartPair 𝓤 H (𝓖 .A) (𝓜 .mem) (𝓡 .run)) 𝓜 𝓡 code.env #ledger·pairs·start-pair start-pair-def.routine code.calls-ledger·pairs·start-pair (start-pair-thm.met 𝓤 H 𝓜 𝓖 𝓡);
-      begins = cited 𝓤 H (FirstLink 𝓤 H (𝓖 .A) (𝓜 .mem) (𝓡 .run)) 𝓜 𝓡 code.env #ledger·links·first-link first-link-def.routine code.calls-ledger·links·first-link (first-link-thm.met 𝓤 H 𝓜 𝓖 𝓡);
-      next = cited 𝓤 H (NextLink 𝓤 H (𝓖 .A) (𝓜 .mem) (𝓡 .run)) 𝓜 𝓡 code.env #ledger·links·next-link next-link-def.routine code.calls-ledger·links·next-link (next-link-thm.met 𝓤 H 𝓜 𝓖 𝓡);
+      empties = cited 𝓤 H (Emptied 𝓤 H (𝓖 .A) (𝓜 .mem) (𝓡 .run)) 𝓜 𝓡 code.env #counts·emptied emptied-def.routine code.calls-counts·emptied (emptied-thm.met 𝓤 H 𝓜 𝓖 𝓡);
+      sites = cited 𝓤 H (SitesToStart 𝓤 H (𝓖 .A) (𝓜 .mem) (𝓡 .run)) 𝓜 𝓡 code.env #links·sites-to-start sites-to-start-def.routine code.calls-links·sites-to-start (sites-to-start-thm.met 𝓤 H 𝓜 𝓖 𝓡);
+      pair = cited 𝓤 H (StartPair 𝓤 H (𝓖 .A) (𝓜 .mem) (𝓡 .run)) 𝓜 𝓡 code.env #links·start-pair start-pair-def.routine code.calls-links·start-pair (start-pair-thm.met 𝓤 H 𝓜 𝓖 𝓡);
+      begins = cited 𝓤 H (FirstLink 𝓤 H (𝓖 .A) (𝓜 .mem) (𝓡 .run)) 𝓜 𝓡 code.env #links·first-link first-link-def.routine code.calls-links·first-link (first-link-thm.met 𝓤 H 𝓜 𝓖 𝓡);
+      next = cited 𝓤 H (NextLink 𝓤 H (𝓖 .A) (𝓜 .mem) (𝓡 .run)) 𝓜 𝓡 code.env #links·next-link next-link-def.routine code.calls-links·next-link (next-link-thm.met 𝓤 H 𝓜 𝓖 𝓡);
     }))

@@ -67,10 +67,10 @@ use Rattle.parcels.proofs.scan_slots as scan-slots
 use Rattle.parcels.proofs.scan_slots.Symbol as scan-slots-def
 use Rattle.parcels.proofs.scan_slots.Symbol.{name as #parcels·scan-slots}
 use Rattle.parcels.proofs.scan_slots.Met as scan-slots-thm
-use Rattle.ledger.proofs.link_between as link-between
-use Rattle.ledger.proofs.link_between.Symbol as link-between-def
-use Rattle.ledger.proofs.link_between.Symbol.{name as #ledger·link-between}
-use Rattle.ledger.proofs.link_between.Met as link-between-thm
+use Rattle.links.proofs.link_between as link-between
+use Rattle.links.proofs.link_between.Symbol as link-between-def
+use Rattle.links.proofs.link_between.Symbol.{name as #links·link-between}
+use Rattle.links.proofs.link_between.Met as link-between-thm
 use Rattle.ledger.proofs.see.Symbol as see-def
 use Rattle.ledger.proofs.see.Symbol.{name as #ledger·see}
 use Rattle.ledger.proofs.see.Met as see-thm
@@ -179,7 +179,7 @@ module _ {M : Type 1} (𝓤 : URA M) (H : Heap 𝓤) (A : Atoms 𝓤) (W : Given
       -- [words; slots; ledger; the others' own]
       move ! (2 ∷ 3 ∷ []) $ fjoin ! $ move ! (2 ∷ 0 ∷ []) $ fjoin ! $ move ! (1 ∷ 0 ∷ []) $ fjoin ! $ frame ! $ holds ! N.the-type N′.the-plain r _ is $ done !
 
-  module _ (C : Calls 𝓤 H) (Λ : Loops 𝓤 H) (fm : FmC 𝓤 H (W .laws) C) (known-scan-slots : Triple 𝓤 (C #parcels·scan-slots) (ScanSlots 𝓤 H A mem run)) (known-link-between : Triple 𝓤 (C #ledger·link-between) (LinkBetween 𝓤 H A mem run)) (known-see : Triple 𝓤 (C #ledger·see) (See 𝓤 H A mem run)) (known-lag-seen : Triple 𝓤 (C #sites·lags·lag-seen) (LagSeen 𝓤 H A mem run)) where
+  module _ (C : Calls 𝓤 H) (Λ : Loops 𝓤 H) (fm : FmC 𝓤 H (W .laws) C) (known-scan-slots : Triple 𝓤 (C #parcels·scan-slots) (ScanSlots 𝓤 H A mem run)) (known-link-between : Triple 𝓤 (C #links·link-between) (LinkBetween 𝓤 H A mem run)) (known-see : Triple 𝓤 (C #ledger·see) (See 𝓤 H A mem run)) (known-lag-seen : Triple 𝓤 (C #sites·lags·lag-seen) (LagSeen 𝓤 H A mem run)) where
     walk : ent 𝓤 (onEntry 𝓤 H A lag.signature (κ₀, (κ₁, (κ₂, tt))) (q₀, (q₁, (q₂, tt))) a vals) (WpFn 𝓤 H C Λ code.function (s₀ ∷ s₁ ∷ vptr b₂ o₂ ∷ run-of sizes ∷ vint w64 sender ∷ vint w64 receiver ∷ []) Post)
     walk =
         qed W ((‵ (flft κ₀ q₀) ⊛ (‵ (flft κ₁ q₁) ⊛ (‵ (flft κ₂ q₂) ⊛ ‵ ftrue))) ∷ ‵ (owns (ShrSlice (named 0) κ₀ u64 ∷ ShrSlice (named 1) κ₁ P.the-row ∷ ShrRef (named 2) κ₂ T.the-row ∷ U.the-row ∷ u64 ∷ u64 ∷ []) a vals) ∷ []) ∵
@@ -219,7 +219,7 @@ module _ {M : Type 1} (𝓤 : URA M) (H : Heap 𝓤) (A : Atoms 𝓤) (W : Given
         keep ! (0 ∷ 1 ∷ 4 ∷ 5 ∷ 2 ∷ 3 ∷ 7 ∷ []) $ by ! (exits w r is (lagged sizes ws ss h sender receiver scan link books r e₁ e₂ e₃ e₄))))))))))))))))))
 
 module _ {M : Type 1} (𝓤 : URA M) (H : Heap 𝓤) (A : Atoms 𝓤) (W : Given 𝓤 H A) (mem : Memory → SProp 𝓤) (run : Routine → Fun 𝓤) where
-  lag-walks : (C : Calls 𝓤 H) (Λ : Loops 𝓤 H) → FmC 𝓤 H (W .laws) C → Triple 𝓤 (C #parcels·scan-slots) (ScanSlots 𝓤 H A mem run) → Triple 𝓤 (C #ledger·link-between) (LinkBetween 𝓤 H A mem run) → Triple 𝓤 (C #ledger·see) (See 𝓤 H A mem run) → Triple 𝓤 (C #sites·lags·lag-seen) (LagSeen 𝓤 H A mem run)
+  lag-walks : (C : Calls 𝓤 H) (Λ : Loops 𝓤 H) → FmC 𝓤 H (W .laws) C → Triple 𝓤 (C #parcels·scan-slots) (ScanSlots 𝓤 H A mem run) → Triple 𝓤 (C #links·link-between) (LinkBetween 𝓤 H A mem run) → Triple 𝓤 (C #ledger·see) (See 𝓤 H A mem run) → Triple 𝓤 (C #sites·lags·lag-seen) (LagSeen 𝓤 H A mem run)
       → Walks 𝓤 H A lag.ended stayed (WpFn 𝓤 H C Λ code.function) (lag.clauses 𝓤 H A mem run)
   lag-walks C Λ fm k₁ k₂ k₃ k₄ = walked 𝓤 H A lag.ended stayed (lag.clauses 𝓤 H A mem run) (WpFn 𝓤 H C Λ code.function)
       (λ κs. (slice-vals, (slice-vals, (ptr-vals, (LL.vals U.the-type U′.the-laws, (uint-vals w64, (uint-vals w64, tt))))))) (λ κs. (shr-slice-tells (named 0) (κs .0) u64, (shr-slice-tells (named 1) (κs .1 .0) P.the-row, (shr-tells (named 2) (κs .1 .1 .0) T.the-row, (LL.tells U.the-type U′.the-laws, (uint-tells w64, (uint-tells w64, tt)))))))
@@ -230,7 +230,7 @@ module _ {M : Type 1} (𝓤 : URA M) (H : Heap 𝓤) (A : Atoms 𝓤) (W : Given
   goes = (goes-none-slice 𝓤 H A W 3 (0 ∷ []) tt (plain (λ _. u64)) yes, (goes-none-slice 𝓤 H A W 3 (1 ∷ []) tt (plain (λ _. P.the-row)) yes, (goes-none-ref 𝓤 H A W 3 (2 ∷ []) tt (plain (λ _. T.the-row)) yes, (goes-none 𝓤 H A W 3 (λ _. U.the-row) yes (λ κs x f. refl), (goes-none 𝓤 H A W 3 (λ _. u64) yes (λ κs x f. refl), (goes-none 𝓤 H A W 3 (λ _. u64) yes (λ κs x f. refl), tt))))))
 
 lag-meets : {M : Type 1} (𝓤 : URA M) (H : Heap 𝓤) (A : Atoms 𝓤) → Given 𝓤 H A → (mem : Memory → SProp 𝓤) (run : Routine → Fun 𝓤) (𝓣 : Tables 𝓤 H)
-    → Triple 𝓤 (𝓣 .C #parcels·scan-slots) (ScanSlots 𝓤 H A mem run) → Triple 𝓤 (𝓣 .C #ledger·link-between) (LinkBetween 𝓤 H A mem run) → Triple 𝓤 (𝓣 .C #ledger·see) (See 𝓤 H A mem run) → Triple 𝓤 (𝓣 .C #sites·lags·lag-seen) (LagSeen 𝓤 H A mem run)
+    → Triple 𝓤 (𝓣 .C #parcels·scan-slots) (ScanSlots 𝓤 H A mem run) → Triple 𝓤 (𝓣 .C #links·link-between) (LinkBetween 𝓤 H A mem run) → Triple 𝓤 (𝓣 .C #ledger·see) (See 𝓤 H A mem run) → Triple 𝓤 (𝓣 .C #sites·lags·lag-seen) (LagSeen 𝓤 H A mem run)
     → Meets 𝓤 H A lag.signature (WpFn 𝓤 H (𝓣 .C) (𝓣 .Λ) code.function) (lag.spec 𝓤 H A mem run)
 lag-meets 𝓤 H A W mem run 𝓣 k₁ k₂ k₃ k₄ = walk-meets 𝓤 H A lag.ended stayed W (goes 𝓤 H A W mem run) (lag.clauses 𝓤 H A mem run) (WpFn 𝓤 H (𝓣 .C) (𝓣 .Λ) code.function) (WpFn-mono 𝓤 H (W .laws) 𝓣 code.function)
     (lag-walks 𝓤 H A W mem run (𝓣 .C) (𝓣 .Λ) (fmOf 𝓤 H (W .laws) 𝓣) k₁ k₂ k₃ k₄)
@@ -242,6 +242,6 @@ lag-spec 𝓤 H 𝓜 𝓖 𝓡 =
     (tables 𝓤 H 𝓜 𝓡 code.env .C) (tables 𝓤 H 𝓜 𝓡 code.env .Λ) #sites·lent·lag code.function (code.unfolded 𝓤 H 𝓜 𝓡)
     (lag-meets 𝓤 H (𝓖 .A) (givenOf 𝓤 H 𝓜 𝓖) (𝓜 .mem) (𝓡 .run) (tablesOf 𝓤 H 𝓜 (tables 𝓤 H 𝓜 𝓡 code.env))
     (cited 𝓤 H (ScanSlots 𝓤 H (𝓖 .A) (𝓜 .mem) (𝓡 .run)) 𝓜 𝓡 code.env #parcels·scan-slots scan-slots-def.routine code.calls-parcels·scan-slots (scan-slots-thm.met 𝓤 H 𝓜 𝓖 𝓡))
-    (cited 𝓤 H (LinkBetween 𝓤 H (𝓖 .A) (𝓜 .mem) (𝓡 .run)) 𝓜 𝓡 code.env #ledger·link-between link-between-def.routine code.calls-ledger·link-between (link-between-thm.met 𝓤 H 𝓜 𝓖 𝓡))
+    (cited 𝓤 H (LinkBetween 𝓤 H (𝓖 .A) (𝓜 .mem) (𝓡 .run)) 𝓜 𝓡 code.env #links·link-between link-between-def.routine code.calls-links·link-between (link-between-thm.met 𝓤 H 𝓜 𝓖 𝓡))
     (cited 𝓤 H (See 𝓤 H (𝓖 .A) (𝓜 .mem) (𝓡 .run)) 𝓜 𝓡 code.env #ledger·see see-def.routine code.calls-ledger·see (see-thm.met 𝓤 H 𝓜 𝓖 𝓡))
     (cited 𝓤 H (LagSeen 𝓤 H (𝓖 .A) (𝓜 .mem) (𝓡 .run)) 𝓜 𝓡 code.env #sites·lags·lag-seen lag-seen-def.routine code.calls-sites·lags·lag-seen (lag-seen-thm.met 𝓤 H 𝓜 𝓖 𝓡)))
