@@ -1,17 +1,17 @@
 // The links of a run, by value: where the entry of one is, in which order a loop goes over them, what a send and a delivery make of an entry,
 // and the serials of 32 bits in it. What each means is said in `specs/` of the crate `rules`.
+mod lags;
 mod pairs;
 mod places;
 mod serial;
 mod turns;
 
+pub use lags::lag_refusal;
 pub use pairs::heard_pair;
 pub use pairs::incomparable;
 pub use pairs::lag_of;
-pub use pairs::lag_undefined;
 pub use pairs::pair_sound;
 pub use pairs::sent_pair;
-pub use pairs::silent;
 pub use pairs::start_pair;
 pub use places::link_between;
 pub use places::sites_of;

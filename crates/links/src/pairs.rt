@@ -75,14 +75,14 @@ pub fn incomparable(serial: u32, pair: Pair) -> bool
 }
 
 // Whether a lag is asked of a link on which nothing was sent or nothing was heard.
-pub fn silent(pair: Pair) -> bool
+pub(crate) fn silent(pair: Pair) -> bool
     ensures { λ r. ⌜ r ≡ silent pair ⌝ }
 {
     (pair.unsent != 0) | (pair.unheard != 0)
 }
 
 // Whether the newest heard and the last sent have no order, so that there is no lag.
-pub fn lag_undefined(pair: Pair) -> bool
+pub(crate) fn lag_undefined(pair: Pair) -> bool
     ensures { λ r. ⌜ r ≡ lagUndefined pair ⌝ }
 {
     let last = serial_before(pair.next);

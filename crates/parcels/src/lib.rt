@@ -11,6 +11,19 @@ ghost use Rattle.rules.specs.meaning.Lengths.{M};
 ghost use Rattle.rules.specs.meaning.Parcels.{noParcel, isFree, isOccupied, lowestFree, scanOf, cleared};
 ghost use Rattle.parcels.specs.Turns.{lookOf};
 
+// What stands in a free slot.
+pub fn no_parcel() -> Parcel
+    ensures { λ r. ⌜ r ≡ noParcel ⌝ }
+{
+    Parcel {
+        site: 0,
+        id: 0,
+        length: 0,
+        sender: 0,
+        serial: 0,
+    }
+}
+
 // Whether a slot is free. There is no early exit, here and below: a scan then has few branches to guess.
 pub fn is_free(p: Parcel) -> bool
     ensures { λ r. ⌜ r ≡ isFree p ⌝ }

@@ -12,7 +12,7 @@ use Rattle.rules.specs.declared.Run.{Run}
 use Rattle.rules.specs.meaning.Refusals.{firstGiven}
 use Rattle.rules.specs.meaning.States.{sizesRight}
 use Rattle.rules.specs.meaning.Runs.{freshRefusal}
-use Rattle.sites.specs.Verdicts.{freshWords}
+use Rattle.sites.specs.Values.{freshWords}
 
 one-more : (i : ℕ) → _++_ {A = ℕ} (replicate i 0) (0 ∷ []) ≡ replicate (suc i) 0
 one-more zero = refl

@@ -1,4 +1,4 @@
--- The lag query: its own refusals at known tests, and what the judge before them makes of it.
+-- The lag query: what the judge before its own tests makes of it.
 -- Assumes nothing.
 use Prim.Native.Nat.{ℕ, zero, suc, _≤_, _<_}
 use mathlib.Core.Bool.{Bool, true, false, not, cond}
@@ -6,39 +6,15 @@ use mathlib.Core.Path.{_≡_, refl, sym, ap, _∙_}
 use mathlib.Core.List.{List, [], _∷_}
 use lib.ListN.{length}
 use lib.Dec.{eqb}
-use borrow.Author.Tests.{le-leb, lt-leb, eq-eqb, ne-eqb}
+use borrow.Author.Tests.{ne-eqb}
 use Rattle.rules.specs.declared.Run.{Run}
-use Rattle.rules.specs.declared.Seen.{Seen}
 use Rattle.rules.specs.declared.Sight.{Sight}
 use Rattle.rules.specs.meaning.Refusals.{Test, _when_, firstGiven}
 use Rattle.rules.specs.meaning.States.{sizesRight, allSound}
-use Rattle.rules.specs.meaning.Lags.{silent, lagUndefined, lagTests, lagGiven, lagIn, lastSent}
+use Rattle.rules.specs.meaning.Lags.{lagTests, lagGiven, lagIn, lastSent}
 use Rattle.rules.specs.meaning.Serials.{lagOf}
-use Rattle.sites.specs.Verdicts.{judgement, refusedLag, ownLagRefusal}
-
-module _ (run : Run) (books : Seen) (f t : ℕ) where
-  pub lag-from : run .sites ≤ f → 3 ≡ ownLagRefusal run books f t
-  unfolding ownLagRefusal firstGiven
-  lag-from h = rw (le-leb (run .sites) f h)
-
-  module _ (from-in : f < run .sites) where
-    pub lag-to : run .sites ≤ t → 3 ≡ ownLagRefusal run books f t
-    unfolding ownLagRefusal firstGiven
-    lag-to h = rw (lt-leb (run .sites) f from-in, le-leb (run .sites) t h)
-
-    module _ (to-in : t < run .sites) where
-      pub lag-same : f ≡ t → 4 ≡ ownLagRefusal run books f t
-      unfolding ownLagRefusal firstGiven
-      lag-same q = rw (lt-leb (run .sites) f from-in, lt-leb (run .sites) t to-in, eq-eqb f t q)
-
-      module _ (other : f ≡ t → ⊥) where
-        pub lag-silent : silent (books .pair) ≡ true → 16 ≡ ownLagRefusal run books f t
-        unfolding ownLagRefusal firstGiven
-        lag-silent s = rw (lt-leb (run .sites) f from-in, lt-leb (run .sites) t to-in, ne-eqb f t other, s)
-
-        pub lag-by-order : silent (books .pair) ≡ false → (u : Bool) → lagUndefined (books .pair) ≡ u → cond u 15 0 ≡ ownLagRefusal run books f t
-        unfolding ownLagRefusal firstGiven
-        lag-by-order s u e = rw (lt-leb (run .sites) f from-in, lt-leb (run .sites) t to-in, ne-eqb f t other, s, e)
+use Rattle.judge.specs.Judged.{judgement}
+use Rattle.sites.specs.Values.{refusedLag}
 
 -- 1 and 2 before other tests
 two-first : (a b : Bool) (ts : List Test) → firstGiven ((1 when a) ∷ (2 when b) ∷ ts) ≡ cond (eqb (firstGiven ((1 when a) ∷ (2 when b) ∷ [])) 0) (firstGiven ts) (firstGiven ((1 when a) ∷ (2 when b) ∷ []))
@@ -48,8 +24,8 @@ two-first false true ts = refl
 two-first false false ts = refl
 
 module _ (run : Run) (ws : List ℕ) (si : Sight) (f t : ℕ) where
-  by-judge : lagIn run ws si f t ≡ lagGiven (cond (eqb (judgement run ws si) 0) (ownLagRefusal run (si .books) f t) (judgement run ws si)) (si .books .pair)
-  unfolding lagIn judgement ownLagRefusal
+  by-judge : lagIn run ws si f t ≡ lagGiven (cond (eqb (judgement run ws si) 0) (firstGiven (lagTests run (si .books .pair) f t)) (judgement run ws si)) (si .books .pair)
+  unfolding lagIn judgement
   by-judge = ap (λ (r : ℕ). lagGiven r (si .books .pair)) (two-first (not (sizesRight run (length ws) (si .count))) (not (allSound run ws si)) (lagTests run (si .books .pair) f t))
 
   -- an answer with a refusal
@@ -61,11 +37,11 @@ module _ (run : Run) (ws : List ℕ) (si : Sight) (f t : ℕ) where
   judged-out ne = as-refused (judgement run ws si) ne ∙ sym (by-judge ∙ rw (ne-eqb (judgement run ws si) 0 ne))
 
   module _ (fine : judgement run ws si ≡ 0) where
-    own : lagIn run ws si f t ≡ lagGiven (ownLagRefusal run (si .books) f t) (si .books .pair)
+    own : lagIn run ws si f t ≡ lagGiven (firstGiven (lagTests run (si .books .pair) f t)) (si .books .pair)
     own = by-judge ∙ rw fine
 
-    pub own-out : (ownLagRefusal run (si .books) f t ≡ 0 → ⊥) → refusedLag (ownLagRefusal run (si .books) f t) ≡ lagIn run ws si f t
-    own-out ne = as-refused (ownLagRefusal run (si .books) f t) ne ∙ sym own
+    pub own-out : (firstGiven (lagTests run (si .books .pair) f t) ≡ 0 → ⊥) → refusedLag (firstGiven (lagTests run (si .books .pair) f t)) ≡ lagIn run ws si f t
+    own-out ne = as-refused (firstGiven (lagTests run (si .books .pair) f t)) ne ∙ sym own
 
-    pub lag-told : ownLagRefusal run (si .books) f t ≡ 0 → record { refusal = 0; lag = lagOf (si .books .pair .heard) (lastSent (si .books .pair)) } ≡ lagIn run ws si f t
+    pub lag-told : firstGiven (lagTests run (si .books .pair) f t) ≡ 0 → record { refusal = 0; lag = lagOf (si .books .pair .heard) (lastSent (si .books .pair)) } ≡ lagIn run ws si f t
     lag-told z = sym (own ∙ rw z)

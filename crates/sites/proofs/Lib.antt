@@ -1,10 +1,3 @@
-pub mod Judging
-pub mod Tables
-pub mod OneTable
-pub mod Posting
-pub mod Delivering
-pub mod Merging
-pub mod Deciding
 pub mod Lagging
 pub mod Lending
 pub mod Outcomes

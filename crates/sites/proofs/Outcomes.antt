@@ -30,14 +30,16 @@ use Rattle.rules.specs.meaning.Parcels.{noParcel, lowestFree, scanOf, cleared}
 use Rattle.rules.specs.meaning.States.{State, lent, sightOf, StateSound}
 use Rattle.rules.specs.meaning.Kinds.{slotOf, linkOf, numbers, takesSlot}
 use Rattle.rules.specs.meaning.Runs.{refusalIn, refusalOf, valueOf, stateBy, after, freshRefusal, empty, afterFresh, Stepped, Freshened}
-use Rattle.sites.specs.declared.verdict.Verdict.{Verdict}
+use Rattle.steps.specs.declared.verdict.Verdict.{Verdict}
 use Rattle.rules.specs.laws.run.Steps.{sound-judged}
-use Rattle.sites.specs.Verdicts.{Ready, seenAs, judgement, stepRefusal, stepVerdict, stepWords, verdictBy, lookedAt, verdictUnder, wordsUnder, answerIn, freshWords, slotsToClear}
+use Rattle.judge.specs.Judged.{seenAs, judgement}
+use Rattle.steps.specs.Verdicts.{Ready, stepRefusal, stepVerdict, stepWords, verdictBy, lookedAt, verdictUnder, wordsUnder, answerIn}
+use Rattle.sites.specs.Values.{freshWords, slotsToClear}
 use Rattle.rules.specs.laws.run.Acts.{judged-first}
 use Rattle.rules.specs.meaning.Steps.{effect}
 use Rattle.rules.specs.meaning.Lags.{lagIn, lagAnswer}
 use Rattle.rules.specs.meaning.Acts.{judgedOf, answerUnder, afterUnder, Acted}
-use Rattle.sites.proofs.Judging.{sized}
+use Rattle.judge.proofs.Judging.{sized}
 
 -- no counter, no slot and no link: all stays as it is
 unbooked : (l : Ledger) → length (l .pairs) ≡ 256 → bookedLedger M 0 noLink noPair l ≡ l

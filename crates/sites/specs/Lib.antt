@@ -1,1 +1,1 @@
-pub mod Verdicts
+pub mod Values

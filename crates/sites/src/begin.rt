@@ -1,10 +1,10 @@
 // How a fresh run begins: the sizes are judged, and nothing else.
-use crate::judge::sizes_right;
+use judge::sizes_right;
 use rules::Run;
 ghost use mathlib.Core.Path.{_≡_};
 ghost use lib.ListN.{length, replicate};
 ghost use Rattle.rules.specs.meaning.Runs.{freshRefusal};
-ghost use Rattle.sites.specs.Verdicts.{freshWords, slotsToClear};
+ghost use Rattle.sites.specs.Values.{freshWords, slotsToClear};
 
 fn zero_words(words: &mut [u64])
     ensures { λ _. ⌜ now (words .exit) ≡ replicate (length (now (words .entry))) 0 ⌝ }

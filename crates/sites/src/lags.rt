@@ -1,8 +1,7 @@
 // The lag query, by value but for the words: it is judged like a step, and has its own tests after that.
-use crate::judge::judge_seen;
+use judge::judge_seen;
 use links::lag_of;
-use links::lag_undefined;
-use links::silent;
+use links::lag_refusal;
 use rules::Lag;
 use rules::Run;
 use rules::Scan;
@@ -10,7 +9,8 @@ use rules::Seen;
 ghost use mathlib.Core.Path.{_≡_};
 ghost use Rattle.rules.specs.meaning.Parcels.{noParcel};
 ghost use Rattle.rules.specs.meaning.Lags.{lagIn};
-ghost use Rattle.sites.specs.Verdicts.{seenAs, refusedLag, ownLagRefusal};
+ghost use Rattle.judge.specs.Judged.{seenAs};
+ghost use Rattle.sites.specs.Values.{refusedLag};
 
 // A refused query: its number, and no lag.
 fn no_lag(number: u32) -> Lag
@@ -22,28 +22,7 @@ fn no_lag(number: u32) -> Lag
     }
 }
 
-// The query's own tests, once the state is judged: 3, 4, 16, 15, or 0 where none is given.
-fn own_refusal(run: Run, books: Seen, from: u64, to: u64) -> u32
-    ensures { λ r. ⌜ r ≡ ownLagRefusal run books from to ⌝ }
-{
-    if run.sites <= from {
-        return 3;
-    }
-    if run.sites <= to {
-        return 3;
-    }
-    if from == to {
-        return 4;
-    }
-    if silent(books.pair) {
-        return 16;
-    }
-    if lag_undefined(books.pair) {
-        return 15;
-    }
-    0
-}
-
+// 1 or 2, then what the query itself is refused for, else the lag.
 pub(crate) fn lag_seen(
     words: &[u64],
     run: Run,
@@ -59,7 +38,7 @@ pub(crate) fn lag_seen(
     if judged != 0 {
         return no_lag(judged);
     }
-    let own = own_refusal(run, books, from, to);
+    let own = lag_refusal(run, books.pair, from, to);
     if own != 0 {
         return no_lag(own);
     }

@@ -2,12 +2,8 @@
 // and stores what that said. None has a branch, so that one proof by hand serves every step.
 use crate::begin::clear_words;
 use crate::begin::slots_to_clear;
-use crate::decide::decide;
-use crate::decide::link_of;
-use crate::decide::needs_slot;
-use crate::decide::slot_of;
-use crate::judge::judge_seen;
 use crate::lags::lag_seen;
+use judge::judge_seen;
 use ledger::book;
 use ledger::see;
 use ledger::start;
@@ -24,6 +20,10 @@ use rules::NO_LINK;
 use rules::Parcel;
 use rules::Run;
 use rules::Step;
+use steps::decide;
+use steps::link_of;
+use steps::needs_slot;
+use steps::slot_of;
 ghost use mathlib.Core.Path.{_≡_};
 ghost use Rattle.rules.specs.meaning.States.{lent};
 ghost use Rattle.rules.specs.meaning.Runs.{Stepped, Freshened};

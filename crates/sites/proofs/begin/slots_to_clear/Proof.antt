@@ -1,7 +1,7 @@
 -- `sites::begin::slots_to_clear`: by whether there is a refusal.
 -- Assumes nothing.
 use borrow.Author.Tests.{eq-eqb, ne-eqb}
-use Rattle.sites.specs.Verdicts.{slotsToClear}
+use Rattle.sites.specs.Values.{slotsToClear}
 use Rattle.sites.proofs.begin.slots_to_clear.Statement.{statement}
 use Rattle.sites.proofs.begin.slots_to_clear.Tie as tie
 

@@ -8,7 +8,8 @@ use denote.Ref.{now}
 use Rattle.rules.specs.declared.Lag.{Lag}
 use Rattle.rules.specs.meaning.Parcels.{noParcel}
 use Rattle.rules.specs.declared.Sight.{Sight}
-use Rattle.sites.specs.Verdicts.{seenAs, refusedLag}
+use Rattle.judge.specs.Judged.{seenAs}
+use Rattle.sites.specs.Values.{refusedLag}
 use Rattle.sites.proofs.Lagging.{judged-out, own-out, lag-told}
 use borrow.Author.Needs.{needs, sfits-of}
 use Rattle.sites.proofs.lags.lag_seen.Statement.{statement}
@@ -36,8 +37,8 @@ returns c =
     let a = start j .args in
     c .no-lag .ensures ∙ ap refusedLag (j .judge-seen .ensures) ∙ judged-out (a .run) (now (a .words)) (S j) (a .from) (a .to) (λ z. c .before .if1 .taken (j .judge-seen .ensures ∙ z))
 
-own-refusal-requires : tie.Need-own-refusal-requires
-own-refusal-requires c κs = search needs
+lag-refusal-requires : tie.Need-lag-refusal-requires
+lag-refusal-requires c κs = search needs
 
 no-lag-requires-2 : tie.Need-no-lag-requires-2
 no-lag-requires-2 c κs = search needs
@@ -47,8 +48,8 @@ returns-2 c =
     let o = c .before .before in
     let j = o .before .before in
     let a = start j .args in
-    c .no-lag2 .ensures ∙ ap refusedLag (o .own-refusal .ensures)
-    ∙ own-out (a .run) (now (a .words)) (S j) (a .from) (a .to) (sym (j .judge-seen .ensures) ∙ o .before .if1 .left) (λ z. c .before .if2 .taken (o .own-refusal .ensures ∙ z))
+    c .no-lag2 .ensures ∙ ap refusedLag (o .lag-refusal .ensures)
+    ∙ own-out (a .run) (now (a .words)) (S j) (a .from) (a .to) (sym (j .judge-seen .ensures) ∙ o .before .if1 .left) (λ z. c .before .if2 .taken (o .lag-refusal .ensures ∙ z))
 
 lag-of-requires : tie.Need-lag-of-requires
 lag-of-requires c κs = search needs
@@ -59,7 +60,7 @@ returns-3 c =
     let j = o .before .before in
     let a = start j .args in
     ap given (toZ-ofZ w32 (c .lag-of .result) (sfits-of (c .lag-of .ok)) ∙ c .lag-of .ensures)
-    ∙ (lag-told (a .run) (now (a .words)) (S j) (a .from) (a .to) (sym (j .judge-seen .ensures) ∙ o .before .if1 .left) (sym (o .own-refusal .ensures) ∙ c .before .if2 .left))
+    ∙ (lag-told (a .run) (now (a .words)) (S j) (a .from) (a .to) (sym (j .judge-seen .ensures) ∙ o .before .if1 .left) (sym (o .lag-refusal .ensures) ∙ c .before .if2 .left))
 
 pub lag-seen-spec : {M : Type 1} → statement M
 lag-seen-spec =
@@ -68,7 +69,7 @@ lag-seen-spec =
     judge-seen-requires
     no-lag-requires
     returns
-    own-refusal-requires
+    lag-refusal-requires
     no-lag-requires-2
     returns-2
     lag-of-requires

@@ -48,10 +48,10 @@ use Rattle.rules.specs.declared.Step.{Step}
 use Rattle.rules.specs.meaning.Lengths.{M as Most}
 use Rattle.rules.specs.meaning.Ledgers.{seenOf, bookedLedger}
 use Rattle.rules.specs.meaning.Parcels.{noParcel, lowestFree}
-use Rattle.sites.specs.declared.verdict.Verdict.{Verdict}
+use Rattle.steps.specs.declared.verdict.Verdict.{Verdict}
 use Rattle.rules.specs.meaning.Kinds.{slotOf, linkOf, takesSlot}
 use Rattle.rules.specs.meaning.States.{lent}
-use Rattle.sites.specs.Verdicts.{lookedAt, verdictUnder, wordsUnder, answerIn}
+use Rattle.steps.specs.Verdicts.{lookedAt, verdictUnder, wordsUnder, answerIn}
 use Rattle.rules.specs.meaning.Acts.{Clear}
 use Rattle.ledger.proofs.Calls.{calls-value, calls-then, calls-out}
 use Rattle.ledger.proofs.Entry.{Pr, p-vals, counted}
@@ -70,35 +70,35 @@ use Rattle.rules.proofs.Seen as S
 use Rattle.rules.proofs.Seen.Laws as S′
 use Rattle.rules.proofs.Step as Q
 use Rattle.rules.proofs.Step.Laws as Q′
-use Rattle.sites.proofs.verdict.Verdict as D
-use Rattle.sites.proofs.verdict.Verdict.Laws as D′
-use Rattle.sites.proofs.decide.slot_of as slot-of
-use Rattle.sites.proofs.decide.slot_of.Symbol as slot-of-def
-use Rattle.sites.proofs.decide.slot_of.Symbol.{name as #sites·decide·slot-of}
-use Rattle.sites.proofs.decide.slot_of.Met as slot-of-thm
+use Rattle.steps.proofs.verdict.Verdict as D
+use Rattle.steps.proofs.verdict.Verdict.Laws as D′
+use Rattle.steps.proofs.slot_of as slot-of
+use Rattle.steps.proofs.slot_of.Symbol as slot-of-def
+use Rattle.steps.proofs.slot_of.Symbol.{name as #steps·slot-of}
+use Rattle.steps.proofs.slot_of.Met as slot-of-thm
 use Rattle.parcels.proofs.read_slot as read-slot
 use Rattle.parcels.proofs.read_slot.Symbol as read-slot-def
 use Rattle.parcels.proofs.read_slot.Symbol.{name as #parcels·read-slot}
 use Rattle.parcels.proofs.read_slot.Met as read-slot-thm
-use Rattle.sites.proofs.decide.needs_slot as needs-slot
-use Rattle.sites.proofs.decide.needs_slot.Symbol as needs-slot-def
-use Rattle.sites.proofs.decide.needs_slot.Symbol.{name as #sites·decide·needs-slot}
-use Rattle.sites.proofs.decide.needs_slot.Met as needs-slot-thm
+use Rattle.steps.proofs.needs_slot as needs-slot
+use Rattle.steps.proofs.needs_slot.Symbol as needs-slot-def
+use Rattle.steps.proofs.needs_slot.Symbol.{name as #steps·needs-slot}
+use Rattle.steps.proofs.needs_slot.Met as needs-slot-thm
 use Rattle.parcels.proofs.lowest_free as lowest-free
 use Rattle.parcels.proofs.lowest_free.Symbol as lowest-free-def
 use Rattle.parcels.proofs.lowest_free.Symbol.{name as #parcels·lowest-free}
 use Rattle.parcels.proofs.lowest_free.Met as lowest-free-thm
-use Rattle.sites.proofs.decide.link_of as link-of
-use Rattle.sites.proofs.decide.link_of.Symbol as link-of-def
-use Rattle.sites.proofs.decide.link_of.Symbol.{name as #sites·decide·link-of}
-use Rattle.sites.proofs.decide.link_of.Met as link-of-thm
+use Rattle.steps.proofs.link_of as link-of
+use Rattle.steps.proofs.link_of.Symbol as link-of-def
+use Rattle.steps.proofs.link_of.Symbol.{name as #steps·link-of}
+use Rattle.steps.proofs.link_of.Met as link-of-thm
 use Rattle.ledger.proofs.see.Symbol as see-def
 use Rattle.ledger.proofs.see.Symbol.{name as #ledger·see}
 use Rattle.ledger.proofs.see.Met as see-thm
-use Rattle.sites.proofs.decide.decide as decide
-use Rattle.sites.proofs.decide.decide.Symbol as decide-def
-use Rattle.sites.proofs.decide.decide.Symbol.{name as #sites·decide·decide}
-use Rattle.sites.proofs.decide.decide.Met as decide-thm
+use Rattle.steps.proofs.decide as decide
+use Rattle.steps.proofs.decide.Symbol as decide-def
+use Rattle.steps.proofs.decide.Symbol.{name as #steps·decide}
+use Rattle.steps.proofs.decide.Met as decide-thm
 use Rattle.ledger.proofs.book.Symbol as book-def
 use Rattle.ledger.proofs.book.Symbol.{name as #ledger·book}
 use Rattle.ledger.proofs.book.Met as book-thm
@@ -155,13 +155,13 @@ module _ {M : Type 1} (𝓤 : URA M) (H : Heap 𝓤) (A : Atoms 𝓤) (mem : Mem
 
   -- that each is what the table of calls has
   record Known (C : Calls 𝓤 H) : Type 2 where
-    slots-of : Triple 𝓤 (C #sites·decide·slot-of) SlotOf
+    slots-of : Triple 𝓤 (C #steps·slot-of) SlotOf
     reads : Triple 𝓤 (C #parcels·read-slot) ReadSlot
-    wants : Triple 𝓤 (C #sites·decide·needs-slot) NeedsSlot
+    wants : Triple 𝓤 (C #steps·needs-slot) NeedsSlot
     finds : Triple 𝓤 (C #parcels·lowest-free) LowestFree
-    links : Triple 𝓤 (C #sites·decide·link-of) LinkOf
+    links : Triple 𝓤 (C #steps·link-of) LinkOf
     sees : Triple 𝓤 (C #ledger·see) (See 𝓤 H A mem run)
-    decides : Triple 𝓤 (C #sites·decide·decide) Decide
+    decides : Triple 𝓤 (C #steps·decide) Decide
     books : Triple 𝓤 (C #ledger·book) (Book 𝓤 H A mem run)
     stores : Triple 𝓤 (C #parcels·store-slot) StoreSlot
 
@@ -392,13 +392,13 @@ act-spec 𝓤 H 𝓜 𝓖 𝓡 =
     entered 𝓤 H (tripleOf 𝓤 H (𝓖 .A) act.signature (act.spec 𝓤 H (𝓖 .A) (𝓜 .mem) (𝓡 .run)))
     (tables 𝓤 H 𝓜 𝓡 code.env .C) (tables 𝓤 H 𝓜 𝓡 code.env .Λ) #sites·lent·act code.function (code.unfolded 𝓤 H 𝓜 𝓡)
     (act-meets 𝓤 H (𝓖 .A) (givenOf 𝓤 H 𝓜 𝓖) (𝓜 .mem) (𝓡 .run) (tablesOf 𝓤 H 𝓜 (tables 𝓤 H 𝓜 𝓡 code.env)) (record {
-      slots-of = cited 𝓤 H (SlotOf 𝓤 H (𝓖 .A) (𝓜 .mem) (𝓡 .run)) 𝓜 𝓡 code.env #sites·decide·slot-of slot-of-def.routine code.calls-sites·decide·slot-of (slot-of-thm.met 𝓤 H 𝓜 𝓖 𝓡);
+      slots-of = cited 𝓤 H (SlotOf 𝓤 H (𝓖 .A) (𝓜 .mem) (𝓡 .run)) 𝓜 𝓡 code.env #steps·slot-of slot-of-def.routine code.calls-steps·slot-of (slot-of-thm.met 𝓤 H 𝓜 𝓖 𝓡);
       reads = cited 𝓤 H (ReadSlot 𝓤 H (𝓖 .A) (𝓜 .mem) (𝓡 .run)) 𝓜 𝓡 code.env #parcels·read-slot read-slot-def.routine code.calls-parcels·read-slot (read-slot-thm.met 𝓤 H 𝓜 𝓖 𝓡);
-      wants = cited 𝓤 H (NeedsSlot 𝓤 H (𝓖 .A) (𝓜 .mem) (𝓡 .run)) 𝓜 𝓡 code.env #sites·decide·needs-slot needs-slot-def.routine code.calls-sites·decide·needs-slot (needs-slot-thm.met 𝓤 H 𝓜 𝓖 𝓡);
+      wants = cited 𝓤 H (NeedsSlot 𝓤 H (𝓖 .A) (𝓜 .mem) (𝓡 .run)) 𝓜 𝓡 code.env #steps·needs-slot needs-slot-def.routine code.calls-steps·needs-slot (needs-slot-thm.met 𝓤 H 𝓜 𝓖 𝓡);
       finds = cited 𝓤 H (LowestFree 𝓤 H (𝓖 .A) (𝓜 .mem) (𝓡 .run)) 𝓜 𝓡 code.env #parcels·lowest-free lowest-free-def.routine code.calls-parcels·lowest-free (lowest-free-thm.met 𝓤 H 𝓜 𝓖 𝓡);
-      links = cited 𝓤 H (LinkOf 𝓤 H (𝓖 .A) (𝓜 .mem) (𝓡 .run)) 𝓜 𝓡 code.env #sites·decide·link-of link-of-def.routine code.calls-sites·decide·link-of (link-of-thm.met 𝓤 H 𝓜 𝓖 𝓡);
+      links = cited 𝓤 H (LinkOf 𝓤 H (𝓖 .A) (𝓜 .mem) (𝓡 .run)) 𝓜 𝓡 code.env #steps·link-of link-of-def.routine code.calls-steps·link-of (link-of-thm.met 𝓤 H 𝓜 𝓖 𝓡);
       sees = cited 𝓤 H (See 𝓤 H (𝓖 .A) (𝓜 .mem) (𝓡 .run)) 𝓜 𝓡 code.env #ledger·see see-def.routine code.calls-ledger·see (see-thm.met 𝓤 H 𝓜 𝓖 𝓡);
-      decides = cited 𝓤 H (Decide 𝓤 H (𝓖 .A) (𝓜 .mem) (𝓡 .run)) 𝓜 𝓡 code.env #sites·decide·decide decide-def.routine code.calls-sites·decide·decide (decide-thm.met 𝓤 H 𝓜 𝓖 𝓡);
+      decides = cited 𝓤 H (Decide 𝓤 H (𝓖 .A) (𝓜 .mem) (𝓡 .run)) 𝓜 𝓡 code.env #steps·decide decide-def.routine code.calls-steps·decide (decide-thm.met 𝓤 H 𝓜 𝓖 𝓡);
       books = cited 𝓤 H (Book 𝓤 H (𝓖 .A) (𝓜 .mem) (𝓡 .run)) 𝓜 𝓡 code.env #ledger·book book-def.routine code.calls-ledger·book (book-thm.met 𝓤 H 𝓜 𝓖 𝓡);
       stores = cited 𝓤 H (StoreSlot 𝓤 H (𝓖 .A) (𝓜 .mem) (𝓡 .run)) 𝓜 𝓡 code.env #parcels·store-slot store-slot-def.routine code.calls-parcels·store-slot (store-slot-thm.met 𝓤 H 𝓜 𝓖 𝓡);
     }))

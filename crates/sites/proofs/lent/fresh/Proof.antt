@@ -43,7 +43,7 @@ use Rattle.rules.specs.declared.Run.{Run}
 use Rattle.rules.specs.meaning.Ledgers.{startedIf}
 use Rattle.rules.specs.meaning.Parcels.{cleared}
 use Rattle.rules.specs.meaning.Runs.{freshRefusal}
-use Rattle.sites.specs.Verdicts.{freshWords, slotsToClear}
+use Rattle.sites.specs.Values.{freshWords, slotsToClear}
 use Rattle.ledger.proofs.Lent.{ref, val, typed, holds}
 use Rattle.ledger.proofs.Calls.{calls-value, calls-out}
 use Rattle.ledger.proofs.Entry.{unit-typed}

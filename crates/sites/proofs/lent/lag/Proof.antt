@@ -47,7 +47,7 @@ use Rattle.rules.specs.meaning.Links.{linkBetween}
 use Rattle.rules.specs.meaning.Parcels.{noParcel, scanOf}
 use Rattle.rules.specs.meaning.States.{lent}
 use Rattle.rules.specs.meaning.Lags.{lagIn, lagAnswer}
-use Rattle.sites.specs.Verdicts.{seenAs}
+use Rattle.judge.specs.Judged.{seenAs}
 use Rattle.ledger.proofs.Lent.{ref, val, typed, told, is-at, holds}
 use Rattle.ledger.proofs.Calls.{calls-then, calls-value}
 use Rattle.ledger.proofs.Entry.{n-at, n-typed}

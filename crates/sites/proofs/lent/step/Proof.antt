@@ -53,7 +53,7 @@ use Rattle.rules.specs.meaning.Lengths.{M as Most}
 use Rattle.rules.specs.meaning.Parcels.{noParcel, scanOf}
 use Rattle.rules.specs.meaning.States.{lent}
 use Rattle.rules.specs.meaning.Runs.{Stepped}
-use Rattle.sites.specs.Verdicts.{seenAs, judgement}
+use Rattle.judge.specs.Judged.{seenAs, judgement}
 use Rattle.ledger.proofs.Lent.{ref, val, typed, told, is-at, holds}
 use Rattle.ledger.proofs.OnLedger.{See, lends-see}
 use Rattle.sites.proofs.Lending.{Kept, lends-out, takes-back}
@@ -78,10 +78,10 @@ use Rattle.parcels.proofs.scan_slots.Met as scan-slots-thm
 use Rattle.ledger.proofs.see.Symbol as see-def
 use Rattle.ledger.proofs.see.Symbol.{name as #ledger·see}
 use Rattle.ledger.proofs.see.Met as see-thm
-use Rattle.sites.proofs.judge.judge_seen as judge-seen
-use Rattle.sites.proofs.judge.judge_seen.Symbol as judge-seen-def
-use Rattle.sites.proofs.judge.judge_seen.Symbol.{name as #sites·judge·judge-seen}
-use Rattle.sites.proofs.judge.judge_seen.Met as judge-seen-thm
+use Rattle.judge.proofs.judge_seen as judge-seen
+use Rattle.judge.proofs.judge_seen.Symbol as judge-seen-def
+use Rattle.judge.proofs.judge_seen.Symbol.{name as #judge·judge-seen}
+use Rattle.judge.proofs.judge_seen.Met as judge-seen-thm
 use Rattle.sites.proofs.lent.act.Symbol as act-def
 use Rattle.sites.proofs.lent.act.Symbol.{name as #sites·lent·act}
 use Rattle.sites.proofs.lent.act.Met as act-thm
@@ -194,7 +194,7 @@ module _ {M : Type 1} (𝓤 : URA M) (H : Heap 𝓤) (A : Atoms 𝓤) (W : Given
       nothing ! $ owned ! Q.the-row (Is Q.the-row) (EL.makes Q.the-type Q′.the-plain 𝓤 H A) asked _ is-asked $ fjoin ! $ holds ! U.the-type U′.the-plain sizes _ is-sizes $ fjoin ! $ move ! (3 ∷ 0 ∷ []) $ fjoin ! $ move ! (2 ∷ 0 ∷ []) $ fjoin ! $ move ! (1 ∷ 0 ∷ []) $ fjoin ! $
       holds ! N.the-type N′.the-plain r _ is $ move ! (1 ∷ 0 ∷ []) $ done !
 
-  module _ (C : Calls 𝓤 H) (Λ : Loops 𝓤 H) (fm : FmC 𝓤 H (W .laws) C) (known-scan-slots : Triple 𝓤 (C #parcels·scan-slots) (ScanSlots 𝓤 H A mem run)) (known-see : Triple 𝓤 (C #ledger·see) (See 𝓤 H A mem run)) (known-judge-seen : Triple 𝓤 (C #sites·judge·judge-seen) (JudgeSeen 𝓤 H A mem run)) (known-act : Triple 𝓤 (C #sites·lent·act) (OneAct 𝓤 H A mem run)) where
+  module _ (C : Calls 𝓤 H) (Λ : Loops 𝓤 H) (fm : FmC 𝓤 H (W .laws) C) (known-scan-slots : Triple 𝓤 (C #parcels·scan-slots) (ScanSlots 𝓤 H A mem run)) (known-see : Triple 𝓤 (C #ledger·see) (See 𝓤 H A mem run)) (known-judge-seen : Triple 𝓤 (C #judge·judge-seen) (JudgeSeen 𝓤 H A mem run)) (known-act : Triple 𝓤 (C #sites·lent·act) (OneAct 𝓤 H A mem run)) where
     walk : ent 𝓤 (onEntry 𝓤 H A step.signature (κ₀, (κ₁, (κ₂, tt))) (q₀, (q₁, (q₂, tt))) a vals) (WpFn 𝓤 H C Λ code.function (s₀ ∷ s₁ ∷ vptr b₂ o₂ ∷ run-of sizes ∷ step-of asked ∷ []) Post)
     walk =
         qed W ((‵ (flft κ₀ q₀) ⊛ (‵ (flft κ₁ q₁) ⊛ (‵ (flft κ₂ q₂) ⊛ ‵ ftrue))) ∷ ‵ (owns (MutSlice (named 0) κ₀ u64 ∷ MutSlice (named 1) κ₁ P.the-row ∷ MutRef (named 2) κ₂ T.the-row ∷ U.the-row ∷ Q.the-row ∷ []) a vals) ∷ []) ∵
@@ -250,7 +250,7 @@ module _ {M : Type 1} (𝓤 : URA M) (H : Heap 𝓤) (A : Atoms 𝓤) (W : Given
         keep ! (0 ∷ 1 ∷ 2 ∷ 3 ∷ 4 ∷ 5 ∷ []) $ by ! (exits w r zs₀ zs₁ k is-r (judged-step sizes (lent ws ss h) asked judged r (lent zs₀ zs₁ k) (judged-all sizes ws ss h scan books judged e₁ e₃ e₂) did) len₀ len₁))))))))))))))))))))))))))))))))))))
 
 module _ {M : Type 1} (𝓤 : URA M) (H : Heap 𝓤) (A : Atoms 𝓤) (W : Given 𝓤 H A) (mem : Memory → SProp 𝓤) (run : Routine → Fun 𝓤) where
-  step-walks : (C : Calls 𝓤 H) (Λ : Loops 𝓤 H) → FmC 𝓤 H (W .laws) C → Triple 𝓤 (C #parcels·scan-slots) (ScanSlots 𝓤 H A mem run) → Triple 𝓤 (C #ledger·see) (See 𝓤 H A mem run) → Triple 𝓤 (C #sites·judge·judge-seen) (JudgeSeen 𝓤 H A mem run) → Triple 𝓤 (C #sites·lent·act) (OneAct 𝓤 H A mem run)
+  step-walks : (C : Calls 𝓤 H) (Λ : Loops 𝓤 H) → FmC 𝓤 H (W .laws) C → Triple 𝓤 (C #parcels·scan-slots) (ScanSlots 𝓤 H A mem run) → Triple 𝓤 (C #ledger·see) (See 𝓤 H A mem run) → Triple 𝓤 (C #judge·judge-seen) (JudgeSeen 𝓤 H A mem run) → Triple 𝓤 (C #sites·lent·act) (OneAct 𝓤 H A mem run)
       → Walks 𝓤 H A step.ended stayed (WpFn 𝓤 H C Λ code.function) (step.clauses 𝓤 H A mem run)
   step-walks C Λ fm k₁ k₂ k₃ k₄ = walked 𝓤 H A step.ended stayed (step.clauses 𝓤 H A mem run) (WpFn 𝓤 H C Λ code.function)
       (λ κs. (slice-vals, (slice-vals, (ptr-vals, (LL.vals U.the-type U′.the-laws, (EL.vals Q.the-type Q′.the-laws, tt)))))) (λ κs. (mut-slice-tells (named 0) (κs .0) u64, (mut-slice-tells (named 1) (κs .1 .0) P.the-row, (mut-tells (named 2) (κs .1 .1 .0) T.the-row, (LL.tells U.the-type U′.the-laws, (EL.tells Q.the-type Q′.the-laws, tt))))))
@@ -261,7 +261,7 @@ module _ {M : Type 1} (𝓤 : URA M) (H : Heap 𝓤) (A : Atoms 𝓤) (W : Given
   goes = (goes-gave-slice 𝓤 H A W 3 0 tt (plain (λ _. u64)), (goes-gave-slice 𝓤 H A W 3 1 tt (plain (λ _. P.the-row)), (goes-gave-ref 𝓤 H A W 3 2 tt (plain (λ _. T.the-row)), (goes-none 𝓤 H A W 3 (λ _. U.the-row) yes (λ κs x f. refl), (goes-none 𝓤 H A W 3 (λ _. Q.the-row) yes (λ κs x f. refl), tt)))))
 
 step-meets : {M : Type 1} (𝓤 : URA M) (H : Heap 𝓤) (A : Atoms 𝓤) → Given 𝓤 H A → (mem : Memory → SProp 𝓤) (run : Routine → Fun 𝓤) (𝓣 : Tables 𝓤 H)
-    → Triple 𝓤 (𝓣 .C #parcels·scan-slots) (ScanSlots 𝓤 H A mem run) → Triple 𝓤 (𝓣 .C #ledger·see) (See 𝓤 H A mem run) → Triple 𝓤 (𝓣 .C #sites·judge·judge-seen) (JudgeSeen 𝓤 H A mem run) → Triple 𝓤 (𝓣 .C #sites·lent·act) (OneAct 𝓤 H A mem run)
+    → Triple 𝓤 (𝓣 .C #parcels·scan-slots) (ScanSlots 𝓤 H A mem run) → Triple 𝓤 (𝓣 .C #ledger·see) (See 𝓤 H A mem run) → Triple 𝓤 (𝓣 .C #judge·judge-seen) (JudgeSeen 𝓤 H A mem run) → Triple 𝓤 (𝓣 .C #sites·lent·act) (OneAct 𝓤 H A mem run)
     → Meets 𝓤 H A step.signature (WpFn 𝓤 H (𝓣 .C) (𝓣 .Λ) code.function) (step.spec 𝓤 H A mem run)
 step-meets 𝓤 H A W mem run 𝓣 k₁ k₂ k₃ k₄ = walk-meets 𝓤 H A step.ended stayed W (goes 𝓤 H A W mem run) (step.clauses 𝓤 H A mem run) (WpFn 𝓤 H (𝓣 .C) (𝓣 .Λ) code.function) (WpFn-mono 𝓤 H (W .laws) 𝓣 code.function)
     (step-walks 𝓤 H A W mem run (𝓣 .C) (𝓣 .Λ) (fmOf 𝓤 H (W .laws) 𝓣) k₁ k₂ k₃ k₄)
@@ -274,5 +274,5 @@ step-spec 𝓤 H 𝓜 𝓖 𝓡 =
     (step-meets 𝓤 H (𝓖 .A) (givenOf 𝓤 H 𝓜 𝓖) (𝓜 .mem) (𝓡 .run) (tablesOf 𝓤 H 𝓜 (tables 𝓤 H 𝓜 𝓡 code.env))
     (cited 𝓤 H (ScanSlots 𝓤 H (𝓖 .A) (𝓜 .mem) (𝓡 .run)) 𝓜 𝓡 code.env #parcels·scan-slots scan-slots-def.routine code.calls-parcels·scan-slots (scan-slots-thm.met 𝓤 H 𝓜 𝓖 𝓡))
     (cited 𝓤 H (See 𝓤 H (𝓖 .A) (𝓜 .mem) (𝓡 .run)) 𝓜 𝓡 code.env #ledger·see see-def.routine code.calls-ledger·see (see-thm.met 𝓤 H 𝓜 𝓖 𝓡))
-    (cited 𝓤 H (JudgeSeen 𝓤 H (𝓖 .A) (𝓜 .mem) (𝓡 .run)) 𝓜 𝓡 code.env #sites·judge·judge-seen judge-seen-def.routine code.calls-sites·judge·judge-seen (judge-seen-thm.met 𝓤 H 𝓜 𝓖 𝓡))
+    (cited 𝓤 H (JudgeSeen 𝓤 H (𝓖 .A) (𝓜 .mem) (𝓡 .run)) 𝓜 𝓡 code.env #judge·judge-seen judge-seen-def.routine code.calls-judge·judge-seen (judge-seen-thm.met 𝓤 H 𝓜 𝓖 𝓡))
     (cited 𝓤 H (OneAct 𝓤 H (𝓖 .A) (𝓜 .mem) (𝓡 .run)) 𝓜 𝓡 code.env #sites·lent·act act-def.routine code.calls-sites·lent·act (act-thm.met 𝓤 H 𝓜 𝓖 𝓡)))
