@@ -3,8 +3,7 @@
 -- A turn looks into the ledger, copies one entry and ends the look, so that between turns the function owns what it was passed.
 -- Assumes nothing.
 use mathlib.Core.Path.{_≡_, refl, sym, _∙_, ap, subst}
-use Prim.Native.Nat.{ℕ, _+_, _*_, _-_, _≤_, _<_, _^_}
-use native.Mathlib.Omega.{arith}
+use Prim.Native.Nat.{ℕ, _+_, _-_, _≤_, _<_, _^_}
 use mathlib.Core.Bool.{Bool, true, false, _&&_}
 use mathlib.Core.List.{List, [], _∷_}
 use mathlib.Core.WellFounded.{WellFounded, InvImage·wf}
@@ -43,7 +42,7 @@ use denote.Steps.{nothing, owned}
 use denote.Triple.Spec.{Meets, tripleOf}
 use denote.Triple.Table.{entered, cited}
 use denote.Triple.Walked.{says, Stays, stay-none-ref, stay-none, walkOf, Walks, ends-at, walked, goes-none-ref, goes-none, walk-meets}
-use borrow.Author.Tests.{ltb-true, ltb-false}
+use borrow.Author.Tests.{ltb-false}
 use Rattle.rules.specs.declared.Pair.{Pair}
 use Rattle.rules.specs.declared.Ledger.{Ledger}
 use Rattle.links.specs.declared.turns.Link.{Link}
@@ -53,7 +52,7 @@ use Rattle.ledger.proofs.Calls.{calls-value}
 use Rattle.ledger.proofs.Lent.{ref, typed, told, is-at}
 use Rattle.ledger.proofs.Within.{peers-in, peers-out, cuts, mends, elems, unelems}
 use Rattle.ledger.proofs.Entry.{Lr, Pr, p-vals, p-tells, p-makes, p-typed, pairs-cut, stride-fits, placed, n-at, n-typed, b-at, b-typed, counted-shr}
-use Rattle.ledger.proofs.Passing.{Kr, k-val, k-vals, FirstLink, to-first, asked-first, NextLink, to-next, asked-next}
+use Rattle.ledger.proofs.Passing.{Kr, k-val, k-vals, Turn, turn-at, FirstLink, to-first, asked-first, NextLink, to-next, asked-next}
 use Rattle.rules.proofs.Ledger as L
 use Rattle.rules.proofs.Ledger.Laws as L′
 use Rattle.links.proofs.turns.Link as K
@@ -215,9 +214,9 @@ module _ {M : Type 1} (𝓤 : URA M) (H : Heap 𝓤) (A : Atoms 𝓤) (W : Given
       turn t true less =
           assigns ! (bin ! (load ! (from ! (fld ! refl (stop !))) (look-in ! 17 (sub ! 0 refl (whole !)))) (load ! (from ! (stop !)) (look ! 21 refl)) tt) (from ! (stop !)) (init ! 11 refl (tt, tt)) $
           rewrite ! 11 (λ (y : Bool). ‵ (fat fullShare tyBool l₈ 0 (vbool y))) less refl $ stays ! (load ! (from ! (stop !)) (look ! 11 refl)) $
-          assigns ! (bin ! (lit ! tt) (load ! (from ! (fld ! refl (stop !))) (look-in ! 17 (sub ! 0 refl (whole !)))) (record { fits = row-fits })) (from ! (stop !)) (init ! 9 refl (tt, record { fits = row-fits })) $
-          assigns ! (bin ! (load ! (from ! (stop !)) (look ! 9 refl)) (load ! (from ! (fld ! refl (stop !))) (look-in ! 17 (sub ! 1 refl (whole !)))) (record { fits = at-fits })) (from ! (stop !)) (init ! 15 refl (tt, record { fits = at-fits })) $
-          assigns ! (bin ! (load ! (from ! (stop !)) (look ! 15 refl)) (lit ! tt) (record { fits = stride-fits i below })) (from ! (stop !)) (store ! 9 refl (tt, record { fits = stride-fits i below })) $
+          assigns ! (bin ! (lit ! tt) (load ! (from ! (fld ! refl (stop !))) (look-in ! 17 (sub ! 0 refl (whole !)))) (record { fits = on .row-fits })) (from ! (stop !)) (init ! 9 refl (tt, record { fits = on .row-fits })) $
+          assigns ! (bin ! (load ! (from ! (stop !)) (look ! 9 refl)) (load ! (from ! (fld ! refl (stop !))) (look-in ! 17 (sub ! 1 refl (whole !)))) (record { fits = on .at-fits })) (from ! (stop !)) (init ! 15 refl (tt, record { fits = on .at-fits })) $
+          assigns ! (bin ! (load ! (from ! (stop !)) (look ! 15 refl)) (lit ! tt) (record { fits = stride-fits i (on .below) })) (from ! (stop !)) (store ! 9 refl (tt, record { fits = stride-fits i (on .below) })) $
           assigns ! (addr ! (from ! (hop ! (look ! 25 refl) (fld ! refl (stop !))))) (from ! (stop !)) (init ! 7 refl (tt, tt)) $
           assigns ! (bin ! (load ! (from ! (stop !)) (look ! 7 refl)) (load ! (from ! (stop !)) (look ! 9 refl)) tt) (from ! (stop !)) (init ! 5 refl (tt, tt)) $
           rewrite ! 5 (λ (p : ℕ). ‵ (fat fullShare tyPtr l₁₁ 0 (vptr b p))) (placed (o + 32) i) refl $
@@ -230,42 +229,21 @@ module _ {M : Type 1} (𝓤 : URA M) (H : Heap 𝓤) (A : Atoms 𝓤) (W : Given
           calls-value ! (fmOf 𝓤 H (W .laws) 𝓣) pair-sound.ended (pair-sound.clauses 𝓤 H A at-mem run) (known .sound) (to-sound 𝓤 H A at-mem run (here (h .pairs) n t)) (asked-sound 𝓤 H A at-mem run W (here (h .pairs) n t) g) (λ r. r ≡ pairSound (here (h .pairs) n t)) (λ r e. id⊢ 𝓤 _)
           (and-then ! (load ! (from ! (stop !)) (look ! 4 refl)) (no-more !)) (λ r v e is.
           land ! (from ! (stop !)) (init ! 13 refl (b-typed r v is)) $ rewrite ! 13 (λ (u : Val). ‵ (fat fullShare tyBool l₇ 0 u)) (b-at r v is) refl $
-          calls-value ! (fmOf 𝓤 H (W .laws) 𝓣) next-link.ended (next-link.clauses 𝓤 H A at-mem run) (known .next) (to-next 𝓤 H A at-mem run (t .link) n) (asked-next 𝓤 H A at-mem run W (t .link) n (t .is) n-fits low) (λ k. k ≡ nextLink n (t .link)) (λ r e. id⊢ 𝓤 _)
+          calls-value ! (fmOf 𝓤 H (W .laws) 𝓣) next-link.ended (next-link.clauses 𝓤 H A at-mem run) (known .next) (to-next 𝓤 H A at-mem run (t .link) n) (asked-next 𝓤 H A at-mem run W (t .link) n (t .is) (on .n-fits) (on .low)) (λ k. k ≡ nextLink n (t .link)) (λ r e. id⊢ 𝓤 _)
           (and-then ! (load ! (from ! (stop !)) (look ! 18 refl)) (and-then ! (load ! (from ! (stop !)) (look ! 22 refl)) (no-more !))) (λ k v′ next is′.
           land ! (from ! (stop !)) (store ! 17 refl (typed K.the-type K′.the-laws 𝓤 H A W k (v′ ∷ []) is′ .0)) $ rewrite ! 17 (λ (u : Val). ‵ (fat fullShare K′.mir l₅ 0 u)) (told K.the-type K′.the-laws k k v′ is′ refl) refl $
           assigns-last ! (bin ! (load ! (from ! (stop !)) (look ! 19 refl)) (load ! (from ! (stop !)) (look ! 13 refl)) tt) (from ! (stop !)) (store ! 19 refl (tt, tt)) $
           forget ! 3 refl $ forget ! 5 refl $ forget ! 7 refl $ forget ! 9 refl $ forget ! 11 refl $ forget ! 13 refl $ forget ! 15 refl $
-          again ! (Nearer (h .pairs) n) At t (turned (h .pairs) n t la r e k next (is-at K.the-type K′.the-laws k k v′ is′ refl)) (nearer (h .pairs) n few t la k next))))))
+          again ! (Nearer (h .pairs) n) At t (turned (h .pairs) n t (on .less) r e k next (is-at K.the-type K′.the-laws k k v′ is′ refl)) (nearer (h .pairs) n (on .few) t (on .less) k next))))))
         where
           i : ℕ
           i = place (t .link .from) (t .link .to)
 
-          la : t .link .from < n
-          la = ltb-true (t .link .from) n less
-
-          few : n ≤ 16
-          few = omega (arith, sized)
-
-          lb : t .link .to < n
-          lb = on-of n (t .link) (t .stands) la .0
-
-          low : (t .link .from < 16) × (t .link .to < 16)
-          low = (omega (arith, la, few), omega (arith, lb, few))
-
-          row-fits : 16 * t .link .from < 2 ^ 64
-          row-fits = omega (arith, low .0)
-
-          at-fits : 16 * t .link .from + t .link .to < 2 ^ 64
-          at-fits = omega (arith, low .0, low .1)
-
-          below : i < 256
-          below = omega (arith, low .0, low .1)
+          on : Turn n (t .link)
+          on = turn-at s n sized (t .link) (t .stands) less
 
           there : i < length (h .pairs)
-          there = subst (λ (m : ℕ). i < m) (sym len) below
-
-          n-fits : n < 2 ^ 64
-          n-fits = omega (arith, few)
+          there = subst (λ (m : ℕ). i < m) (sym len) (on .below)
       turn t false over =
           assigns ! (bin ! (load ! (from ! (fld ! refl (stop !))) (look-in ! 17 (sub ! 0 refl (whole !)))) (load ! (from ! (stop !)) (look ! 21 refl)) tt) (from ! (stop !)) (init ! 11 refl (tt, tt)) $
           rewrite ! 11 (λ (y : Bool). ‵ (fat fullShare tyBool l₈ 0 (vbool y))) over refl $ leaves-loop ! (load ! (from ! (stop !)) (look ! 11 refl)) $ exec ! C Λ En mir.t-5 (atRet En Post) $

@@ -2,8 +2,7 @@
 -- A `State` is where the loop stands, the entries as they are by then, and the facts that hold of the two. A turn opens the borrow and shuts it.
 -- Assumes nothing.
 use mathlib.Core.Path.{_≡_, refl, sym, _∙_, ap, subst}
-use Prim.Native.Nat.{ℕ, _+_, _*_, _-_, _≤_, _<_, _^_}
-use native.Mathlib.Omega.{arith}
+use Prim.Native.Nat.{ℕ, _+_, _-_, _≤_, _<_, _^_}
 use mathlib.Core.Bool.{Bool, true, false, cond}
 use mathlib.Core.List.{List, [], _∷_}
 use mathlib.Core.WellFounded.{WellFounded, InvImage·wf}
@@ -42,7 +41,7 @@ use denote.Steps.{nothing, owned}
 use denote.Triple.Spec.{Meets, tripleOf}
 use denote.Triple.Table.{entered, cited}
 use denote.Triple.Walked.{says, Stays, stay-ref, stay-none, walkOf, Walks, ends-at, walked, goes-ref, goes-none, walk-meets}
-use borrow.Author.Tests.{ltb-true, ltb-false}
+use borrow.Author.Tests.{ltb-false}
 use Rattle.rules.specs.declared.Counts.{Counts}
 use Rattle.rules.specs.declared.Pair.{Pair}
 use Rattle.rules.specs.declared.Ledger.{Ledger}
@@ -55,7 +54,7 @@ use Rattle.ledger.proofs.Calls.{calls-value}
 use Rattle.ledger.proofs.Lent.{ref, typed, told, is-at}
 use Rattle.ledger.proofs.Within.{unbolts, bolts, cuts, mends, elems, unelems, cell, uncell}
 use Rattle.ledger.proofs.Entry.{Lr, Pr, p-val, p-vals, p-tells, p-makes, p-typed, pairs-cut, with-counts, counts-cut, Cr, c-vals, c-typed, c-makes, stride-fits, placed, n-at, n-typed, counted}
-use Rattle.ledger.proofs.Passing.{Kr, k-val, k-vals, FirstLink, to-first, asked-first, NextLink, to-next, asked-next}
+use Rattle.ledger.proofs.Passing.{Kr, k-val, k-vals, Turn, turn-at, FirstLink, to-first, asked-first, NextLink, to-next, asked-next}
 use Rattle.rules.proofs.Counts as C₀
 use Rattle.rules.proofs.Counts.Laws as C′
 use Rattle.links.proofs.turns.Link as K
@@ -245,9 +244,9 @@ module _ {M : Type 1} (𝓤 : URA M) (H : Heap 𝓤) (A : Atoms 𝓤) (W : Given
       turn t true less =
           assigns ! (bin ! (load ! (from ! (fld ! refl (stop !))) (look-in ! 15 (sub ! 0 refl (whole !)))) (load ! (from ! (stop !)) (look ! 19 refl)) tt) (from ! (stop !)) (init ! 9 refl (tt, tt)) $
           rewrite ! 9 (λ (y : Bool). ‵ (fat fullShare tyBool l₁₂ 0 (vbool y))) less refl $ stays ! (load ! (from ! (stop !)) (look ! 9 refl)) $
-          assigns ! (bin ! (lit ! tt) (load ! (from ! (fld ! refl (stop !))) (look-in ! 15 (sub ! 0 refl (whole !)))) (record { fits = row-fits })) (from ! (stop !)) (init ! 7 refl (tt, record { fits = row-fits })) $
-          assigns ! (bin ! (load ! (from ! (stop !)) (look ! 7 refl)) (load ! (from ! (fld ! refl (stop !))) (look-in ! 15 (sub ! 1 refl (whole !)))) (record { fits = at-fits })) (from ! (stop !)) (init ! 13 refl (tt, record { fits = at-fits })) $
-          assigns ! (bin ! (load ! (from ! (stop !)) (look ! 13 refl)) (lit ! tt) (record { fits = stride-fits i below })) (from ! (stop !)) (store ! 7 refl (tt, record { fits = stride-fits i below })) $
+          assigns ! (bin ! (lit ! tt) (load ! (from ! (fld ! refl (stop !))) (look-in ! 15 (sub ! 0 refl (whole !)))) (record { fits = on .row-fits })) (from ! (stop !)) (init ! 7 refl (tt, record { fits = on .row-fits })) $
+          assigns ! (bin ! (load ! (from ! (stop !)) (look ! 7 refl)) (load ! (from ! (fld ! refl (stop !))) (look-in ! 15 (sub ! 1 refl (whole !)))) (record { fits = on .at-fits })) (from ! (stop !)) (init ! 13 refl (tt, record { fits = on .at-fits })) $
+          assigns ! (bin ! (load ! (from ! (stop !)) (look ! 13 refl)) (lit ! tt) (record { fits = stride-fits i (on .below) })) (from ! (stop !)) (store ! 7 refl (tt, record { fits = stride-fits i (on .below) })) $
           assigns ! (addr ! (from ! (hop ! (look ! 31 refl) (fld ! refl (stop !))))) (from ! (stop !)) (init ! 5 refl (tt, tt)) $
           assigns ! (bin ! (load ! (from ! (stop !)) (look ! 5 refl)) (load ! (from ! (stop !)) (look ! 7 refl)) tt) (from ! (stop !)) (init ! 3 refl (tt, tt)) $
           rewrite ! 3 (λ (p : ℕ). ‵ (fat fullShare tyPtr l₁₅ 0 (vptr b p))) (placed (o + 32) i) refl $
@@ -258,12 +257,12 @@ module _ {M : Type 1} (𝓤 : URA M) (H : Heap 𝓤) (A : Atoms 𝓤) (W : Given
           move ! (1 ∷ []) $ drop ! $ owned ! Pr (Is Pr) (p-makes 𝓤 H A) (startPair f) _ gp $ move ! (1 ∷ 0 ∷ []) $ elem-put ! Pr fullShare (t .pairs) i (startPair f) (p-vals (startPair f)) b (o + 32) there $
           unelems ! Pr fullShare 256 next-pairs b (o + 32) (length-set (t .pairs) i (startPair f) ∙ t .count) $ mends ! fullShare Lr (Array Pr 256) 32 (record { counts = c; pairs = next-pairs }) next-pairs b o $ bolts ! tt Lr b o (record { counts = c; pairs = next-pairs }) $
           -- [ledger; the token; the others' own; _15; …; _0; …]
-          calls-value ! (fmOf 𝓤 H (W .laws) 𝓣) next-link.ended (next-link.clauses 𝓤 H A at-mem run) (known .next) (to-next 𝓤 H A at-mem run (t .link) n) (asked-next 𝓤 H A at-mem run W (t .link) n (t .is) n-fits low) (λ k. k ≡ nextLink n (t .link)) (λ r e. id⊢ 𝓤 _)
+          calls-value ! (fmOf 𝓤 H (W .laws) 𝓣) next-link.ended (next-link.clauses 𝓤 H A at-mem run) (known .next) (to-next 𝓤 H A at-mem run (t .link) n) (asked-next 𝓤 H A at-mem run W (t .link) n (t .is) (on .n-fits) (on .low)) (λ k. k ≡ nextLink n (t .link)) (λ r e. id⊢ 𝓤 _)
           (and-then ! (load ! (from ! (stop !)) (look ! 16 refl)) (and-then ! (load ! (from ! (stop !)) (look ! 20 refl)) (no-more !))) (λ k v next is′.
           land ! (from ! (stop !)) (init ! 11 refl (typed K.the-type K′.the-laws 𝓤 H A W k (v ∷ []) is′ .0)) $ rewrite ! 11 (λ (u : Val). ‵ (fat fullShare K′.mir l₁₁ 0 u)) (told K.the-type K′.the-laws k k v is′ refl) refl $
           assigns-last ! (of-opd ! (load ! (from ! (stop !)) (look ! 11 refl))) (from ! (stop !)) (store ! 15 refl (typed K.the-type K′.the-laws 𝓤 H A W k (k-vals k) (is-at K.the-type K′.the-laws k k v is′ refl) .0)) $
           forget ! 3 refl $ forget ! 5 refl $ forget ! 7 refl $ forget ! 9 refl $ forget ! 11 refl $ forget ! 13 refl $
-          again ! (Nearer (h .pairs) f n) At t (turned (h .pairs) f n t la k next (is-at K.the-type K′.the-laws k k v is′ refl)) (nearer (h .pairs) f n few t la k next))))
+          again ! (Nearer (h .pairs) f n) At t (turned (h .pairs) f n t (on .less) k next (is-at K.the-type K′.the-laws k k v is′ refl)) (nearer (h .pairs) f n (on .few) t (on .less) k next))))
         where
           i : ℕ
           i = place (t .link .from) (t .link .to)
@@ -271,32 +270,11 @@ module _ {M : Type 1} (𝓤 : URA M) (H : Heap 𝓤) (A : Atoms 𝓤) (W : Given
           next-pairs : List Pair
           next-pairs = set (t .pairs) (place (t .link .from) (t .link .to)) (startPair f)
 
-          la : t .link .from < n
-          la = ltb-true (t .link .from) n less
-
-          few : n ≤ 16
-          few = omega (arith, sized)
-
-          lb : t .link .to < n
-          lb = on-of n (t .link) (t .stands) la .0
-
-          low : (t .link .from < 16) × (t .link .to < 16)
-          low = (omega (arith, la, few), omega (arith, lb, few))
-
-          row-fits : 16 * t .link .from < 2 ^ 64
-          row-fits = omega (arith, low .0)
-
-          at-fits : 16 * t .link .from + t .link .to < 2 ^ 64
-          at-fits = omega (arith, low .0, low .1)
-
-          below : i < 256
-          below = omega (arith, low .0, low .1)
+          on : Turn n (t .link)
+          on = turn-at (cond wanted s 0) n sized (t .link) (t .stands) less
 
           there : i < length (t .pairs)
-          there = subst (λ (m : ℕ). i < m) (sym (t .count)) below
-
-          n-fits : n < 2 ^ 64
-          n-fits = omega (arith, few)
+          there = subst (λ (m : ℕ). i < m) (sym (t .count)) (on .below)
       turn t false over =
           assigns ! (bin ! (load ! (from ! (fld ! refl (stop !))) (look-in ! 15 (sub ! 0 refl (whole !)))) (load ! (from ! (stop !)) (look ! 19 refl)) tt) (from ! (stop !)) (init ! 9 refl (tt, tt)) $
           rewrite ! 9 (λ (y : Bool). ‵ (fat fullShare tyBool l₁₂ 0 (vbool y))) over refl $ leaves-loop ! (load ! (from ! (stop !)) (look ! 9 refl)) $ exec ! C Λ En mir.t-8 (atRet En Post) $
