@@ -1,20 +1,20 @@
 -- The tests of sizes and tables, as the code makes them.
 -- Assumes nothing.
-use Prim.Native.Nat.{ℕ, zero, suc, _+_, _*_, _-_, _≤_, _<_}
+use Prim.Native.Nat.{ℕ, suc, _+_, _*_, _-_, _≤_, _<_}
 use native.Mathlib.Nat.{mul-le-mul}
 use native.Mathlib.Numerals.{add-one}
 use native.Mathlib.Omega.{arith}
-use mathlib.Core.Bool.{Bool, true, false, _&&_, and-assoc, and-true}
-use mathlib.Core.Path.{_≡_, refl, sym, ap, _∙_}
+use mathlib.Core.Bool.{Bool, true, _&&_, and-assoc, and-true}
+use mathlib.Core.Path.{_≡_, sym, _∙_}
 use mathlib.Core.List.{List}
-use lib.ListN.{length, take, drop}
-use lib.Dec.{leb, eqb}
+use lib.ListN.{take, drop}
+use lib.Dec.{leb}
 use borrow.Author.Tests.{leb-true, eqb-true}
 use Rattle.rules.specs.declared.Run.{Run}
 use Rattle.rules.specs.meaning.Lengths.{M}
 use Rattle.rules.specs.meaning.Table.{sound}
 use Rattle.rules.specs.laws.table.View.{parts}
-use Rattle.rules.specs.meaning.States.{width, sizesRight, tablesSound}
+use Rattle.rules.specs.meaning.States.{sizesRight, tablesSound}
 use Rattle.rules.specs.laws.run.Sites.{next-part}
 use Rattle.judge.specs.Judged.{Sized}
 

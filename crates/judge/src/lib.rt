@@ -6,7 +6,7 @@ use rules::Scan;
 use rules::Seen;
 use rules::Sight;
 ghost use mathlib.Core.Path.{_≡_};
-ghost use Prim.Native.Nat.{_*_, _≤_};
+ghost use Prim.Native.Nat.{_*_};
 ghost use lib.ListN.{length};
 ghost use Rattle.rules.specs.meaning.Lengths.{M};
 ghost use Rattle.rules.specs.meaning.Parcels.{noParcel};

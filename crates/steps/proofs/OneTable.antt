@@ -1,15 +1,13 @@
 -- The steps on one site's table: their refusals at known tests, and what the table's answer makes of them.
 -- Assumes nothing.
-use Prim.Native.Nat.{ℕ, zero, suc, _≤_, _<_}
-use mathlib.Core.Bool.{Bool, true, false, cond}
-use mathlib.Core.Path.{_≡_, refl, sym, ap, _∙_}
+use Prim.Native.Nat.{ℕ, _≤_, _<_}
+use mathlib.Core.Path.{_≡_, refl}
 use mathlib.Core.List.{List}
 use borrow.Author.Tests.{le-leb, lt-leb}
 use Rattle.rules.specs.declared.Run.{Run}
 use Rattle.rules.specs.declared.Sight.{Sight}
-use Rattle.rules.specs.declared.Step.{Step}
 use Rattle.rules.specs.declared.Step.the-variants.{Add, Remove, Query}
-use Rattle.rules.specs.meaning.Lengths.{M, afterAdd, afterRemove}
+use Rattle.rules.specs.meaning.Lengths.{M, afterRemove}
 use Rattle.rules.specs.meaning.Table.{lengthOf, raised}
 use Rattle.rules.specs.meaning.Operations.{answer, raiseRefusal, raiseAnswer, raiseTable, addAnswer, addTable, removeRefusal, removedLength, removeAnswer, removeTable}
 use Rattle.rules.specs.meaning.Refusals.{firstGiven}

@@ -1,17 +1,15 @@
 -- The steps on parcels: their refusals at known tests.
 -- Assumes nothing.
-use Prim.Native.Nat.{ℕ, zero, suc, _≤_, _<_}
-use mathlib.Core.Bool.{Bool, true, false, cond, not, _||_}
-use mathlib.Core.Path.{_≡_, refl, sym, ap, _∙_}
+use Prim.Native.Nat.{ℕ, _≤_, _<_}
+use mathlib.Core.Bool.{Bool, true, false, not}
+use mathlib.Core.Path.{_≡_, refl, sym}
 use mathlib.Core.List.{List}
-use lib.Dec.{leb, eqb}
 use borrow.Author.Tests.{le-leb, lt-leb, eq-eqb, ne-eqb}
 use Rattle.rules.specs.declared.Run.{Run}
 use Rattle.rules.specs.declared.Parcel.{Parcel}
 use Rattle.rules.specs.declared.Pair.{Pair}
 use Rattle.rules.specs.declared.Sight.{Sight}
-use Rattle.rules.specs.declared.Step.{Step}
-use Rattle.rules.specs.declared.Step.the-variants.{Send, Again, Lose, Deliver}
+use Rattle.rules.specs.declared.Step.the-variants.{Send, Again, Lose}
 use Rattle.rules.specs.meaning.Lengths.{M}
 use Rattle.rules.specs.meaning.Table.{lengthOf}
 use Rattle.rules.specs.meaning.Parcels.{noParcel, isOccupied}
@@ -19,7 +17,7 @@ use Rattle.rules.specs.meaning.Links.{noLink, noPair, sentPair}
 use Rattle.rules.specs.meaning.Ledgers.{sentCounter, copiedCounter, lostCounter}
 use Rattle.rules.specs.meaning.Refusals.{firstGiven}
 use Rattle.rules.specs.meaning.States.{tableAt}
-use Rattle.rules.specs.meaning.Steps.{nothingThere, noFreeSlot, effect}
+use Rattle.rules.specs.meaning.Steps.{nothingThere, effect}
 use Rattle.steps.specs.Verdicts.{refusedVerdict, posted, stepRefusal, stepVerdict}
 
 not-not : (b : Bool) → not (not b) ≡ b

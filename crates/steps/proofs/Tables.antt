@@ -2,15 +2,12 @@
 -- Assumes nothing.
 use Prim.Native.Nat.{ℕ, zero, suc, _+_, _*_, _-_, _≤_, _<_}
 use native.Mathlib.Omega.{arith}
-use mathlib.Core.Bool.{Bool, true, false, cond}
-use mathlib.Core.Path.{_≡_, refl, sym, ap, _∙_}
+use mathlib.Core.Path.{_≡_, refl, ap, _∙_}
 use mathlib.Core.List.{List, _++_}
 use lib.ListN.{length, take, drop}
 use lib.Seq.{length-take-le}
 use lib.ListN.{length-drop}
 use Rattle.rules.specs.declared.Run.{Run}
-use Rattle.rules.specs.declared.Answer.{Answer}
-use Rattle.rules.specs.declared.Parcel.{Parcel}
 use Rattle.rules.specs.declared.Sight.{Sight}
 use Rattle.rules.specs.declared.Step.{Step}
 use Rattle.rules.specs.meaning.Lengths.{M}
@@ -19,7 +16,7 @@ use Rattle.rules.specs.meaning.Operations.{answer, unlessRefused}
 use Rattle.rules.specs.meaning.Parcels.{noParcel}
 use Rattle.rules.specs.meaning.Links.{noLink, noPair}
 use Rattle.rules.specs.meaning.Ledgers.{noCounter}
-use Rattle.rules.specs.meaning.States.{width, tableAt, withTable, tablesSound}
+use Rattle.rules.specs.meaning.States.{width, tableAt, withTable}
 use Rattle.rules.specs.meaning.Steps.{noPost, effect}
 use Rattle.rules.specs.laws.run.Sites.{part-fits, tables-at, with-own}
 use Rattle.steps.specs.Verdicts.{Ready, verdict, tableVerdict, stepRefusal, stepVerdict, stepWords}

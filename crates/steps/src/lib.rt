@@ -15,5 +15,4 @@ pub use looks::link_of;
 pub use looks::needs_slot;
 pub use looks::slot_of;
 pub use low::low_after;
-pub use places::Part;
 pub use verdict::Verdict;

@@ -17,9 +17,9 @@ ghost use mathlib.Core.Path.{_≡_};
 ghost use mathlib.Core.Bool.{not};
 ghost use mathlib.Core.List.{List};
 ghost use Prim.Native.Nat.{ℕ};
-ghost use Rattle.rules.specs.declared.Step.the-variants.{Send, Again, Lose, Deliver};
+ghost use Rattle.rules.specs.declared.Step.the-variants.{Send, Again, Lose};
 ghost use Rattle.rules.specs.meaning.Steps.{nothingThere};
-ghost use Rattle.steps.specs.Verdicts.{Ready, posted, stepVerdict, stepWords};
+ghost use Rattle.steps.specs.Verdicts.{Ready, posted, stepVerdict};
 
 // A new parcel takes the free slot with the lowest number, unless there is none or its counter is at the largest. The entry of its link is set with it, so
 // that a refused send uses no serial.

@@ -1,6 +1,6 @@
 -- `judge::all_sound`: test by test.
 -- Assumes nothing.
-use mathlib.Core.Path.{_≡_, sym, _∙_}
+use mathlib.Core.Path.{sym, _∙_}
 use Rattle.rules.specs.meaning.States.{allSound}
 use native.Mathlib.Omega.{arith}
 use borrow.Author.Needs.{needs}

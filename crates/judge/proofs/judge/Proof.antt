@@ -1,10 +1,9 @@
 -- `judge::judge`: the two tests in order.
 -- Assumes nothing.
-use mathlib.Core.Path.{_≡_, sym, _∙_}
+use mathlib.Core.Path.{sym, _∙_}
 use Rattle.rules.specs.meaning.Refusals.{firstGiven}
 use Rattle.judge.specs.Judged.{judgement}
 use Rattle.judge.proofs.Judging.{sized}
-use native.Mathlib.Omega.{arith}
 use borrow.Author.Needs.{needs}
 use Rattle.judge.proofs.judge.Statement.{statement}
 use Rattle.judge.proofs.judge.Tie as tie

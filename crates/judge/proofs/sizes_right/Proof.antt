@@ -1,7 +1,5 @@
 -- `judge::sizes_right`: test by test.
 -- Assumes nothing.
-use Prim.Native.Nat.{_*_, _≤_}
-use lib.Dec.{leb}
 use borrow.Author.Tests.{le-leb, lt-leb}
 use Rattle.rules.specs.meaning.States.{sizesRight}
 use Rattle.judge.proofs.Judging.{few-words}

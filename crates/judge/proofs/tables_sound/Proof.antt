@@ -1,8 +1,8 @@
 -- `judge::tables_sound`: the tables so far and the tables that are left are all of them.
 -- Assumes nothing.
-use Prim.Native.Nat.{ℕ, _+_, _*_, _-_, _≤_}
+use Prim.Native.Nat.{_+_, _*_, _-_, _≤_}
 use mathlib.Core.Bool.{_&&_}
-use mathlib.Core.Path.{_≡_, refl, sym, ap, _∙_}
+use mathlib.Core.Path.{_≡_, refl, sym}
 use lib.ListN.{length, take, drop}
 use denote.Ref.{now}
 use native.Mathlib.Nat.{zero-mul, suc-mul}

@@ -26,7 +26,7 @@ use denote.Exit.{yes}
 use denote.RattleType.{owns}
 use denote.Laws.{Is, shows}
 use denote.Memory.{pointee, shares}
-use denote.Plain.{uint-vals, uint-tells, uint-makes}
+use denote.Plain.{uint-vals, uint-tells}
 use denote.Ref.{RefT}
 use denote.Slice.{sliceTy, sliceVal, ShrSlice, Room, at-slice, slice-vals, shr-slice-tells, heres, codedHoleys}
 use denote.Index.{elem-out, elem-back, looks-slice, shuts-slice}

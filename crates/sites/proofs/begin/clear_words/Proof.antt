@@ -1,9 +1,8 @@
 -- `sites::begin::clear_words`: by the sizes.
 -- Assumes nothing.
-use mathlib.Core.Path.{_≡_, sym, _∙_}
+use mathlib.Core.Path.{sym, _∙_}
 use denote.Ref.{now}
 use Rattle.sites.proofs.Beginning.{right, wrong}
-use native.Mathlib.Omega.{arith}
 use borrow.Author.Needs.{needs}
 use Rattle.sites.proofs.begin.clear_words.Statement.{statement}
 use Rattle.sites.proofs.begin.clear_words.Tie as tie

@@ -1,9 +1,9 @@
 -- `sites::begin::zero_words`: the words so far are 0.
 -- Assumes nothing.
 use Prim.Native.Nat.{_≤_, _-_}
-use mathlib.Core.Path.{_≡_, refl, sym, ap, _∙_}
+use mathlib.Core.Path.{_≡_, refl}
 use denote.Ref.{now}
-use lib.ListN.{length, take, replicate, length-set, length-replicate}
+use lib.ListN.{length, take, replicate, length-set}
 use Rattle.sites.proofs.Beginning.{zeroed-more, zeroed-end}
 use native.Mathlib.Omega.{arith}
 use borrow.Author.Needs.{needs}

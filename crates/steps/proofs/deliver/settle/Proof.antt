@@ -1,8 +1,7 @@
 -- `steps::deliver::settle`: by whether the table took it.
 -- Assumes nothing.
-use mathlib.Core.Path.{_≡_, _∙_}
+use mathlib.Core.Path.{_∙_}
 use Rattle.steps.proofs.Delivering.{settle-taken, settle-refused}
-use native.Mathlib.Omega.{arith}
 use borrow.Author.Needs.{needs}
 use Rattle.steps.proofs.deliver.settle.Statement.{statement}
 use Rattle.steps.proofs.deliver.settle.Tie as tie

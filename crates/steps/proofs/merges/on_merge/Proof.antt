@@ -7,7 +7,6 @@ use lib.ListN.{length, take, drop}
 use lib.Seq.{length-take-le}
 use denote.Ref.{now}
 use Rattle.rules.specs.declared.Answer.{Answer}
-use Rattle.rules.specs.meaning.Table.{SoundTable}
 use Rattle.rules.specs.meaning.Operations.{mergeAnswer, mergeTable}
 use Rattle.rules.specs.meaning.States.{width, tableAt}
 use Rattle.steps.specs.Verdicts.{tableVerdict}

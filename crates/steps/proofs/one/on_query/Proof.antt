@@ -1,16 +1,15 @@
 -- `steps::one::on_query`: the table of the site answers.
 -- Assumes nothing.
 use Prim.Native.Nat.{ℕ, _≤_, _<_}
-use mathlib.Core.Path.{_≡_, refl, sym, ap, _∙_}
+use mathlib.Core.Path.{ap, _∙_}
 use mathlib.Core.List.{List}
 use lib.ListN.{length}
 use denote.Ref.{now}
-use Rattle.rules.specs.declared.Answer.{Answer}
 use Rattle.rules.specs.meaning.Lengths.{M}
-use Rattle.rules.specs.meaning.Table.{SoundTable, lengthOf}
-use Rattle.rules.specs.meaning.Operations.{answer, addAnswer, addTable, removeAnswer, removeTable}
+use Rattle.rules.specs.meaning.Table.{lengthOf}
+use Rattle.rules.specs.meaning.Operations.{answer}
 use Rattle.steps.specs.Verdicts.{tableVerdict}
-use Rattle.steps.proofs.Tables.{part-end, site-sound, part-is, told-of, put-of, refused-verdict, refused-words}
+use Rattle.steps.proofs.Tables.{part-end, site-sound, part-is, told-of, refused-verdict}
 use Rattle.steps.proofs.OneTable.{query-outside, query-step}
 use native.Mathlib.Omega.{arith}
 use borrow.Author.Needs.{needs}

@@ -1,7 +1,7 @@
 -- `steps::places::part_of`: a product of few sites and small tables.
 -- Assumes nothing.
 use Prim.Native.Nat.{_*_, _+_, _≤_}
-use mathlib.Core.Path.{_≡_, refl}
+use mathlib.Core.Path.{refl}
 use Rattle.rules.specs.laws.run.Sites.{part-fits}
 use Rattle.judge.proofs.Judging.{few-words}
 use native.Mathlib.Omega.{arith}

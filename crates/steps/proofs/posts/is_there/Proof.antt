@@ -1,8 +1,7 @@
 -- `steps::posts::is_there`: by the two tests.
 -- Assumes nothing.
-use mathlib.Core.Path.{_≡_, _∙_}
+use mathlib.Core.Path.{_∙_}
 use Rattle.steps.proofs.Posting.{there, not-there}
-use native.Mathlib.Omega.{arith}
 use borrow.Author.Needs.{needs}
 use Rattle.steps.proofs.posts.is_there.Statement.{statement}
 use Rattle.steps.proofs.posts.is_there.Tie as tie

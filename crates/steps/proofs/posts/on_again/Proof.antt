@@ -1,10 +1,9 @@
 -- `steps::posts::on_again`: by whether the slot holds a parcel.
 -- Assumes nothing.
-use mathlib.Core.Path.{_≡_, sym, _∙_}
+use mathlib.Core.Path.{sym, _∙_}
 use borrow.Author.Tests.{not-true, not-false}
 use Rattle.steps.proofs.Posting.{again-none, again-step}
 use Rattle.steps.proofs.Tables.{refused-verdict}
-use native.Mathlib.Omega.{arith}
 use borrow.Author.Needs.{needs}
 use Rattle.steps.proofs.posts.on_again.Statement.{statement}
 use Rattle.steps.proofs.posts.on_again.Tie as tie

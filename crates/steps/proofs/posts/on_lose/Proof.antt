@@ -1,10 +1,9 @@
 -- `steps::posts::on_lose`: by whether the slot holds a parcel, and by the counter.
 -- Assumes nothing.
-use mathlib.Core.Path.{_≡_, sym, _∙_}
+use mathlib.Core.Path.{sym, _∙_}
 use borrow.Author.Tests.{not-true, not-false}
 use Rattle.steps.proofs.Posting.{lose-none, lose-full, lose-step}
 use Rattle.steps.proofs.Tables.{refused-verdict}
-use native.Mathlib.Omega.{arith}
 use borrow.Author.Needs.{needs}
 use Rattle.steps.proofs.posts.on_lose.Statement.{statement}
 use Rattle.steps.proofs.posts.on_lose.Tie as tie

@@ -5,7 +5,7 @@ use mathlib.Core.Path.{_≡_, sym, ap, _∙_}
 use mathlib.Core.List.{List}
 use lib.ListN.{length}
 use denote.Ref.{now}
-use Rattle.rules.specs.declared.Found.the-variants.{At, Absent}
+use Rattle.rules.specs.declared.Found.the-variants.{At}
 use Rattle.rules.specs.meaning.Table.{SoundTable, lengthAt, foundOf, lengthOf}
 use Rattle.rules.specs.meaning.States.{tableAt}
 use Rattle.table.proofs.Raising.{place, its, above-zero, none}

@@ -1,8 +1,7 @@
 -- `steps::posts::post`: by the two tests.
 -- Assumes nothing.
-use mathlib.Core.Path.{_≡_, _∙_}
+use mathlib.Core.Path.{_∙_}
 use Rattle.steps.proofs.Posting.{no-slot, no-count, in-slot}
-use native.Mathlib.Omega.{arith}
 use borrow.Author.Needs.{needs}
 use Rattle.steps.proofs.posts.post.Statement.{statement}
 use Rattle.steps.proofs.posts.post.Tie as tie
