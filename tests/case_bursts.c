@@ -17,8 +17,6 @@ static size_t some_burst_length(rng *r, int large) {
     return (size_t)below(r, 40);
 }
 
-typedef numbers chooser(rng *r, const shape *s, const pool *p);
-
 static numbers nonsense(rng *r) {
     numbers n;
     n.kind = edge(r);
@@ -108,19 +106,23 @@ static void one_by_one(const shape *s, size_t steps) {
     same_as_apart(s);
 }
 
+void burst_placed(rng *r, const shape *s, size_t steps, chooser *choose) {
+    uint32_t refusal;
+    set_apart(s);
+    refusal = do_burst(r, s, steps, choose);
+    if (refusal == 2) differ("a state made sound is judged unsound");
+    if (refusal != 0) return;
+    one_by_one(s, steps);
+    meet_burst(s, steps);
+}
+
 static void burst_sound(rng *r, int large) {
     static const shape largest = {16, 2048, 65536, 1024};
     shape s = large && one_in(r, 3) ? largest : some_shape(r, large);
     size_t steps = some_burst_length(r, large);
-    uint32_t refusal;
     place_sound(r, &s);
     share_state();
-    set_apart(&s);
-    refusal = do_burst(r, &s, steps, telling_numbers);
-    if (refusal == 2) differ("a state made sound is judged unsound");
-    if (refusal != 0) return;
-    one_by_one(&s, steps);
-    meet_burst(&s, steps);
+    burst_placed(r, &s, steps, telling_numbers);
 }
 
 static void burst_damaged(rng *r, int large) {

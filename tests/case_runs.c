@@ -8,7 +8,7 @@
 #include "model.h"
 #include "pairs.h"
 
-static void place_state(rng *r, const shape *s) {
+void place_state(rng *r, const shape *s) {
     area_place(&words, r, s->n_words * 8);
     area_place(&slots, r, s->n_slots * sizeof(wg_parcel));
     area_place(&ledger, r, sizeof(wg_ledger));
@@ -80,7 +80,7 @@ static void meet_scene(const scene *c, uint64_t kind, uint32_t refusal) {
     if (kind == WG_DELIVER && refusal == 15) meet_no_order(c->no_room, c->count_full);
 }
 
-static uint32_t do_step(rng *r, const shape *s, numbers n) {
+uint32_t do_step(rng *r, const shape *s, numbers n) {
     snprintf(doing, sizeof doing,
              "wg_step sites=%" PRIu64 " capacity=%" PRIu64 " n_words=%zu n_slots=%zu kind=%" PRIu64 " first=%" PRIu64 " second=%" PRIu64 " id=%" PRIu64,
              s->sites, s->capacity, s->n_words, s->n_slots, n.kind, n.first, n.second, n.id);

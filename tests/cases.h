@@ -15,6 +15,9 @@ void case_sizes(rng *r);
 /* case_bursts.c */
 void case_burst(rng *r, int large);
 
+/* case_merges.c: two tables that meet in stretches */
+void case_merge(rng *r, int large);
+
 /* case_texts.c: bulk membership, lines, reports */
 void case_members(rng *r, int large);
 void case_read(rng *r);
@@ -33,6 +36,9 @@ numbers telling_numbers(rng *r, const shape *s, const pool *p);
 
 extern pool ids_of_case;
 
+/* Room for a state and for what its steps and lags answer, all of it 0. */
+void place_state(rng *r, const shape *s);
+
 /* A sound state, in the library's copy alone so far. */
 void place_sound(rng *r, const shape *s);
 
@@ -41,5 +47,12 @@ void share_state(void);
 
 /* A state with sizes outside the limits, for both. */
 shape place_bad_sizes(rng *r);
+
+/* One step of both, compared; the refusal. What it answered beside that is in `value`. */
+uint32_t do_step(rng *r, const shape *s, numbers n);
+
+/* In case_bursts.c: a burst in a sound state that both have, compared with the model's and with its own steps one by one. */
+typedef numbers chooser(rng *r, const shape *s, const pool *p);
+void burst_placed(rng *r, const shape *s, size_t steps, chooser *choose);
 
 #endif

@@ -132,5 +132,6 @@ int print_met(void) {
     missed += print_damages();
     missed += print_counts("steps at sizes", size_names, at_size, 8);
     missed += print_counts("bursts", burst_names, bursts, 4);
-    return missed + print_counts("serials", serial_names, serials, serial_count);
+    missed += print_counts("serials", serial_names, serials, serial_count);
+    return missed + print_counts("merges", merge_names, merges, merge_count);
 }

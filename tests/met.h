@@ -28,6 +28,21 @@ extern const char *const serial_names[];
 extern uint64_t serials[];
 extern const int serial_count;
 
+/* met_merges.c: what the two tables of a merge have between them, as they stand before it. */
+typedef struct {
+    size_t own, others, all; /* the entries of the target and of the source, and the distinct ids of both */
+    uint32_t seen;           /* a bit for each of the names that the tables alone tell */
+} joint;
+
+joint joint_of(const uint64_t *target, const uint64_t *source, uint64_t capacity);
+
+/* The merge of two sites of the run, and what it answered. */
+void meet_merge(const joint *before, const shape *s, uint64_t from, uint64_t to, uint32_t refusal, uint64_t rose);
+
+extern const char *const merge_names[];
+extern uint64_t merges[];
+extern const int merge_count;
+
 /* Prints all of it, and returns how much was not met, or a refusal too seldom. */
 int print_met(void);
 

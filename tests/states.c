@@ -65,7 +65,7 @@ uint64_t some_id(rng *r, const pool *p) {
 
 /* ---- sound states ---- */
 
-static uint64_t some_length(rng *r) {
+uint64_t some_length(rng *r) {
     switch (below(r, 8)) {
     case 0: return M;
     case 1: return M - below(r, 3);
@@ -168,7 +168,7 @@ const char *const damage_names[DAMAGES] = {
     "something heard while the mark of nothing heard stands",
 };
 
-static size_t in_use(const uint64_t *words, uint64_t capacity) {
+size_t in_use(const uint64_t *words, uint64_t capacity) {
     size_t n = 0;
     while (n < capacity && words[2 * n + 1] != 0) n++;
     return n;

@@ -32,6 +32,12 @@ void some_state(rng *r, const shape *s, const pool *p, uint64_t *words, wg_parce
 /* Fills one table, its entries in use up to `most`. */
 void some_table(rng *r, const pool *p, uint64_t *words, uint64_t capacity);
 
+/* 1 to M, the largest and the smallest ones often. */
+uint64_t some_length(rng *r);
+
+/* The entries in use of a sound table. */
+size_t in_use(const uint64_t *words, uint64_t capacity);
+
 /* Damages a sound state or a sound table in the way with that number; 0 where the state has nothing that can be damaged so. */
 enum { TABLE_DAMAGES = 9, DAMAGES = 25 };
 extern const char *const damage_names[DAMAGES];
