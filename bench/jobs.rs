@@ -102,10 +102,25 @@ fn updates(rows: &mut Vec<Row>, rounds: usize) {
     ]);
 }
 
-// Two sites: `own` ids at each alone and `common` at both, in random turns.
-fn two_tables(r: &mut Random, target_only: usize, source_only: usize, common: usize) -> State {
-    let mut s = State::fresh(2, 2048, 0);
-    let all = rising_ids(r, target_only + source_only + common, 1 << 40);
+// How many ids each of two sites has alone, and how many both have.
+#[derive(Clone, Copy)]
+struct Shares {
+    target: usize,
+    source: usize,
+    common: usize,
+}
+
+impl Shares {
+    fn all(self) -> usize {
+        self.target + self.source + self.common
+    }
+}
+
+// Two sites whose ids come in random turns.
+fn two_tables(r: &mut Random, capacity: usize, shares: Shares) -> State {
+    let Shares { target: target_only, source: source_only, common } = shares;
+    let mut s = State::fresh(2, capacity, 0);
+    let all = rising_ids(r, shares.all(), 1 << 40);
     let mut of = vec![0u8; target_only];
     of.extend(vec![1; source_only]);
     of.extend(vec![2; common]);
@@ -117,12 +132,12 @@ fn two_tables(r: &mut Random, target_only: usize, source_only: usize, common: us
     s
 }
 
-// Site 1's table into site 0's.
-fn merging(rows: &mut Vec<Row>, rounds: usize, job: &str, target_only: usize, source_only: usize, common: usize) {
+// Site 1's table into site 0's. `per` is how many units one merge does.
+fn merging(rows: &mut Vec<Row>, rounds: usize, job: &str, unit: &'static str, per: f64, capacity: usize, shares: Shares) {
     let mut r = Random(3);
-    let before: Vec<State> = (0..16).map(|_| two_tables(&mut r, target_only, source_only, common)).collect();
+    let before: Vec<State> = (0..16).map(|_| two_tables(&mut r, capacity, shares)).collect();
     let plain_merge = |s: &mut State| {
-        let (target, source) = s.words.split_at_mut(4096);
+        let (target, source) = s.words.split_at_mut(2 * capacity);
         plain::merge(target, source)
     };
     let (mut a, mut b, mut c) = (before.clone(), before.clone(), before.clone());
@@ -131,7 +146,7 @@ fn merging(rows: &mut Vec<Row>, rounds: usize, job: &str, target_only: usize, so
         assert_eq!((refusal, Some(rose)), (0, plain_merge(&mut b[i])));
         assert!(a[i].words == b[i].words);
     }
-    measure(rows, job, "µs", 1000.0, before.len(), rounds, vec![
+    measure(rows, job, unit, per, before.len(), rounds, vec![
         ("library", Box::new(|i| { a[i].words.copy_from_slice(&before[i].words); timed(|| a[i].step(MERGE, 1, 0, 0)) })),
         ("a plain loop with the same tests, then two pointers into a fresh buffer", Box::new(|i| {
             b[i].words.copy_from_slice(&before[i].words);
@@ -142,6 +157,18 @@ fn merging(rows: &mut Vec<Row>, rounds: usize, job: &str, target_only: usize, so
             timed(|| plain_merge(&mut c[i]))
         })),
     ]);
+}
+
+fn merges(rows: &mut Vec<Row>, rounds: usize) {
+    let just_fit = Shares { target: 683, source: 683, common: 682 };
+    merging(rows, rounds, "merge of two tables that just fit (1,365 ids each, half of them common)", "µs", 1000.0, 2048, just_fit);
+    merging(rows, rounds, "merge of two nearly equal tables (2,040 entries, 8 new)", "µs", 1000.0, 2048, Shares { target: 0, source: 8, common: 2040 });
+    // what an entry of the merged table costs must not grow with the table
+    for (capacity, job) in [(256, "merge that just fits 256 entries"), (512, "merge that just fits 512 entries"),
+                            (1024, "merge that just fits 1,024 entries"), (2048, "merge that just fits 2,048 entries")] {
+        let third = capacity / 3;
+        merging(rows, rounds, job, "ns per entry", capacity as f64, capacity, Shares { target: third, source: third, common: capacity - 2 * third });
+    }
 }
 
 fn membership(rows: &mut Vec<Row>, rounds: usize, job: &str, shuffled: bool) {
@@ -246,8 +273,7 @@ pub fn all(rows: &mut Vec<Row>, rounds: usize) {
     judging(rows, rounds);
     links::all(rows, rounds);
     updates(rows, rounds);
-    merging(rows, rounds, "merge of two tables that just fit (1,365 ids each, half of them common)", 683, 683, 682);
-    merging(rows, rounds, "merge of two nearly equal tables (2,040 entries, 8 new)", 0, 8, 2040);
+    merges(rows, rounds);
     membership(rows, rounds, "membership of 4,096 rising ids", false);
     membership(rows, rounds, "membership of 4,096 shuffled ids", true);
     lines(rows, rounds);
