@@ -46,7 +46,7 @@ typedef char wg_needs_sizes_of_64_bits[sizeof(size_t) == 8 ? 1 : -1];
 #define WG_AREA 32u                 /* bytes that wg_read_line fills */
 #define WG_INPUT_MAX 32768u         /* bytes of input that wg_report runs */
 #define WG_REPORT_MAX 721152u       /* bytes of room that every report fits: WG_REPORT_ROOM(WG_INPUT_MAX) */
-#define WG_STACK 131072u            /* bytes of stack that no call exceeds */
+#define WG_STACK 32768u             /* bytes of stack that no call exceeds */
 
 /* The words of a run, and the bytes that the answers on n ids take. */
 #define WG_WORDS(sites, capacity) ((size_t)(sites) * 2u * (size_t)(capacity))

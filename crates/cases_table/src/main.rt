@@ -56,7 +56,7 @@ fn absorb(words: &mut [u64], id: u64, length: u64) -> Answer {
 fn merge(words: &mut [u64], entries: &[u64]) -> Answer {
     if table::sound(words) {
         if table::sound(entries) {
-            return table::merge(words, entries);
+            return merging::merge(words, entries);
         }
     }
     unsound()

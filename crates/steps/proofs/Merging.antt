@@ -1,11 +1,10 @@
--- Merging one site's table into another's: its refusals at known tests, and what the table's answer makes of it; and a copy in the making.
+-- Merging one site's table into another's: where the two tables stand, the step's refusals at known tests, and what the table's answer makes of it.
 -- Assumes nothing.
-use Prim.Native.Nat.{ℕ, _+_, _≤_, _<_}
-use native.Mathlib.Numerals.{add-one}
+use Prim.Native.Nat.{ℕ, _+_, _*_, _≤_, _<_}
 use mathlib.Core.Path.{_≡_, refl}
+use mathlib.Core.Logic.{_⊎_, inl, inr}
 use mathlib.Core.List.{List}
-use lib.ListN.{length, getD, take, set}
-use lib.Seq.{take-suc-set, take-suc}
+use lib.ListN.{length}
 use borrow.Author.Tests.{le-leb, lt-leb, eq-eqb, ne-eqb}
 use Rattle.rules.specs.declared.Run.{Run}
 use Rattle.rules.specs.declared.Sight.{Sight}
@@ -13,14 +12,34 @@ use Rattle.rules.specs.declared.Step.the-variants.{Merge}
 use Rattle.rules.specs.meaning.Table.{merged, rises}
 use Rattle.rules.specs.meaning.Operations.{mergeRefusal, mergeAnswer, mergeTable}
 use Rattle.rules.specs.meaning.Refusals.{firstGiven}
-use Rattle.rules.specs.meaning.States.{tableAt, withTable}
+use Rattle.rules.specs.meaning.States.{width, tableAt, withTable}
 use Rattle.rules.specs.meaning.Steps.{effect}
-use Rattle.steps.specs.Verdicts.{tableVerdict, stepRefusal, stepVerdict, stepWords}
-use Rattle.steps.proofs.Tables.{table-verdict, table-words}
+use Rattle.rules.specs.laws.table.Order.{Side, Side.below, Side.same, Side.above, side}
+use Rattle.rules.specs.laws.run.Sites.{part-fits}
+use Rattle.merging.specs.Walks.{Apart, partAt, withPart}
+use Rattle.steps.specs.Verdicts.{Ready, tableVerdict, stepRefusal, stepVerdict, stepWords}
+use Rattle.steps.proofs.Tables.{part-end, table-verdict, table-words}
 
--- a turn of the copy: one word more
-pub copied-more : (s u : List ℕ) (i : ℕ) → i < length s → i < length u → take i u ≡ take i s → take (i + 1) (set u i (getD s i 0)) ≡ take (i + 1) s
-copied-more s u i l m h = rw (add-one i, take-suc-set u i (getD s i 0) m, take-suc s i 0 l, h)
+-- a part by its place and its width is the site's table
+module _ (run : Run) (ws : List ℕ) (k at wide : ℕ) (start : at ≡ k * width run) (broad : wide ≡ width run) where
+  pub site-part : partAt ws at wide ≡ tableAt run ws k
+  unfolding tableAt
+  site-part = rw (start, broad)
+
+  pub site-put : (u : List ℕ) → withPart ws at wide u ≡ withTable run ws k u
+  unfolding withTable
+  site-put u = rw (start, broad)
+
+-- the tables of two sites have no word in common
+pub sites-apart : (run : Run) (ws : List ℕ) → Ready run ws → (f t : ℕ) → f < run .sites → t < run .sites → (f ≡ t → ⊥) → (to from wide : ℕ) → to ≡ t * width run
+    → from ≡ f * width run → wide ≡ width run → Apart (length ws) to from wide
+sites-apart run ws ready f t from-in to-in other to from wide et ef ew =
+    rw (et, ef, ew) (record { fits-to = part-end run ws ready t to-in; fits-from = part-end run ws ready f from-in; apart = go (side f t) })
+  where
+    go : Side f t → (f * width run + width run ≤ t * width run) ⊎ (t * width run + width run ≤ f * width run)
+    go (below l) = inl (part-fits f t (width run) l)
+    go (same e) = absurd (other e)
+    go (above l) = inr (part-fits t f (width run) l)
 
 module _ (run : Run) (ws : List ℕ) (si : Sight) (f t : ℕ) where
   pub merge-from : run .sites ≤ f → stepRefusal run ws si (Merge f t) ≡ 3

@@ -3,6 +3,5 @@ pub mod Judging
 pub mod Search
 pub mod Powers
 pub mod Shift
-pub mod Backwards
 pub mod Counting
 pub mod Raising

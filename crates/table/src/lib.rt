@@ -2,7 +2,6 @@
 // All but `sound` and `shown` work on a table that the layer above has judged once: they require that it is sound.
 mod find;
 mod judge;
-mod merging;
 mod places;
 mod raise;
 
@@ -11,7 +10,6 @@ pub use find::query;
 pub use judge::held;
 pub use judge::shown;
 pub use judge::sound;
-pub use merging::merge;
 pub use raise::absorb;
 pub use raise::add;
 pub use raise::lacks_room;

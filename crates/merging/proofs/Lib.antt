@@ -1,0 +1,4 @@
+pub mod Backwards
+pub mod Joins
+pub mod Inside
+pub mod Told

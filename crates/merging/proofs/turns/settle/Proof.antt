@@ -1,0 +1,82 @@
+-- `merging::turns::settle`: by which id is larger.
+-- Assumes nothing.
+use Prim.Native.Nat.{_≤_}
+use native.Mathlib.Omega.{arith}
+use mathlib.Core.Bool.{Bool, true, false}
+use mathlib.Core.Path.{_≡_, _∙_}
+use lib.Dec.{leb}
+use mir.Val.{boolByte}
+use borrow.Author.Needs.{needs}
+use borrow.Author.Tests.{le-leb, lt-leb}
+use Rattle.merging.proofs.turns.settle.Statement.{statement}
+use Rattle.merging.proofs.turns.settle.Tie as tie
+
+bit : (b : Bool) → boolByte b ≤ 1
+bit true = omega arith
+bit false = omega arith
+
+pick-requires : tie.Need-pick-requires
+pick-requires c κs = search needs
+
+pick-requires-2 : tie.Need-pick-requires-2
+pick-requires-2 c κs = search needs
+
+join-requires : tie.Need-join-requires
+join-requires c κs = search needs
+
+pick-requires-3 : tie.Need-pick-requires-3
+pick-requires-3 c κs = search needs
+
+cast-t12 : tie.Need-cast-t12
+cast-t12 c = search needs
+
+cast-t13 : tie.Need-cast-t13
+cast-t13 c = search needs
+
+pick-requires-4 : tie.Need-pick-requires-4
+pick-requires-4 c κs = search needs
+
+pick-requires-5 : tie.Need-pick-requires-5
+pick-requires-5 c κs = search needs
+
+returns : tie.Need-returns
+returns c =
+    let a = c .before .before .before .before .before .before .args in
+    let own = c .before .before .before .before .before .pick .ensures in
+    let other = c .before .before .before .before .pick2 .ensures in
+    let most = c .before .before .before .join .ensures in
+    let id = c .before .before .pick3 .ensures in
+    let mine = c .before .pick4 .ensures in
+    let last = c .pick5 .ensures in (
+      λ h.
+          let on : leb (a .id) (a .mine) ≡ true = le-leb (a .id) (a .mine) (omega arith) in
+          let off : leb (a .mine) (a .id) ≡ false = lt-leb (a .mine) (a .id) h in
+          (rw on at id, most ∙ (rw (rw on at own, rw off at other) (omega arith)), rw on, rw off, rw on at mine, rw off at last),
+      (
+        λ h.
+            let on : leb (a .id) (a .mine) ≡ true = le-leb (a .id) (a .mine) (omega arith) in
+            let too : leb (a .mine) (a .id) ≡ true = le-leb (a .mine) (a .id) (omega arith) in
+            ((rw on at id) ∙ h, most ∙ (rw (rw on at own, rw too at other)), rw on, rw too, rw on at mine, rw too at last),
+        (
+          λ h.
+              let off : leb (a .id) (a .mine) ≡ false = lt-leb (a .id) (a .mine) h in
+              let on : leb (a .mine) (a .id) ≡ true = le-leb (a .mine) (a .id) (omega arith) in
+              (rw off at id, most ∙ (rw (rw off at own, rw on at other) (omega arith)), rw off, rw on, rw off at mine, rw on at last),
+          (bit (leb (a .id) (a .mine)), bit (leb (a .mine) (a .id))),
+        ),
+      ),
+    )
+
+pub settle-spec : {M : Type 1} → statement M
+settle-spec =
+    tie.close
+    (tie.spec
+    pick-requires
+    pick-requires-2
+    join-requires
+    pick-requires-3
+    cast-t12
+    cast-t13
+    pick-requires-4
+    pick-requires-5
+    returns)

@@ -1,0 +1,173 @@
+-- `tally::counting::eight`: the turns by value (`Turns`), eight of them.
+-- Assumes nothing.
+use Prim.Native.Nat.{_-_, _≤_}
+use native.Mathlib.Omega.{arith}
+use borrow.Author.Needs.{needs}
+use Rattle.rules.specs.meaning.Lengths.{M}
+use Rattle.rules.specs.laws.table.Places.{laid-of}
+use Rattle.tally.proofs.Joint.{Turns, turns-none, turned, turns-done}
+use Rattle.tally.proofs.counting.eight.Statement.{statement}
+use Rattle.tally.proofs.counting.eight.Tie as tie
+
+abbrev Inv-loop : tie.InvT-loop
+Inv-loop table entries at start own₀ others₀ risen₀ mine₀ id₀ k₀ own others risen mine id k = Turns table entries (at .held) start (at .others) k own others risen mine id × (k ≤ 8)
+
+abbrev μ-loop : tie.MeasureT-loop
+μ-loop table entries at start own₀ others₀ risen₀ mine₀ id₀ k₀ own others risen mine id k = 8 - k
+
+mul-mine : tie.Need-mul-mine Inv-loop μ-loop
+mul-mine c = search needs
+
+mul-mine-2 : tie.Need-mul-mine-2 Inv-loop μ-loop
+mul-mine-2 c = search needs
+
+shared-slice-read-mine : tie.Need-shared-slice-read-mine Inv-loop μ-loop
+shared-slice-read-mine c = search needs
+
+mul-id : tie.Need-mul-id Inv-loop μ-loop
+mul-id c = search needs
+
+mul-id-2 : tie.Need-mul-id-2 Inv-loop μ-loop
+mul-id-2 c = search needs
+
+shared-slice-read-id : tie.Need-shared-slice-read-id Inv-loop μ-loop
+shared-slice-read-id c = search needs
+
+loop-holds : tie.Need-loop-holds Inv-loop μ-loop
+loop-holds c =
+    let a = c .before .before .before .before in
+    (turns-none (laid-of M _ (a .pre .0)) (laid-of M _ (a .pre .1 .0)) (a .pre .1 .1 .1), omega arith)
+
+mul-pass : tie.Need-mul-pass Inv-loop μ-loop
+mul-pass c = search needs
+
+add-pass : tie.Need-add-pass Inv-loop μ-loop
+add-pass c = search needs
+
+mul-pass-2 : tie.Need-mul-pass-2 Inv-loop μ-loop
+mul-pass-2 c = search needs
+
+shared-slice-read-pass : tie.Need-shared-slice-read-pass Inv-loop μ-loop
+shared-slice-read-pass c = search needs
+
+mul-pass-3 : tie.Need-mul-pass-3 Inv-loop μ-loop
+mul-pass-3 c = search needs
+
+add-pass-2 : tie.Need-add-pass-2 Inv-loop μ-loop
+add-pass-2 c = search needs
+
+mul-pass-4 : tie.Need-mul-pass-4 Inv-loop μ-loop
+mul-pass-4 c = search needs
+
+shared-slice-read-pass-2 : tie.Need-shared-slice-read-pass-2 Inv-loop μ-loop
+shared-slice-read-pass-2 c = search needs
+
+mul-pass-5 : tie.Need-mul-pass-5 Inv-loop μ-loop
+mul-pass-5 c = search needs
+
+add-pass-3 : tie.Need-add-pass-3 Inv-loop μ-loop
+add-pass-3 c = search needs
+
+mul-pass-6 : tie.Need-mul-pass-6 Inv-loop μ-loop
+mul-pass-6 c = search needs
+
+shared-slice-read-pass-3 : tie.Need-shared-slice-read-pass-3 Inv-loop μ-loop
+shared-slice-read-pass-3 c = search needs
+
+mul-pass-7 : tie.Need-mul-pass-7 Inv-loop μ-loop
+mul-pass-7 c = search needs
+
+add-pass-4 : tie.Need-add-pass-4 Inv-loop μ-loop
+add-pass-4 c = search needs
+
+mul-pass-8 : tie.Need-mul-pass-8 Inv-loop μ-loop
+mul-pass-8 c = search needs
+
+shared-slice-read-pass-4 : tie.Need-shared-slice-read-pass-4 Inv-loop μ-loop
+shared-slice-read-pass-4 c = search needs
+
+pass-requires : tie.Need-pass-requires Inv-loop μ-loop
+pass-requires c κs = search needs
+
+add-own : tie.Need-add-own Inv-loop μ-loop
+add-own c = search needs
+
+add-others : tie.Need-add-others Inv-loop μ-loop
+add-others c = search needs
+
+add-risen : tie.Need-add-risen Inv-loop μ-loop
+add-risen c = search needs
+
+add-k : tie.Need-add-k Inv-loop μ-loop
+add-k c = search needs
+
+loop-less : tie.Need-loop-less Inv-loop μ-loop
+loop-less c = search needs
+
+loop-again : tie.Need-loop-again Inv-loop μ-loop
+loop-again c =
+    let turn = c .before .before .before .before .before .before .before .before in
+    let l = turn .before in
+    let a = l .before .before .before .before .before in
+    let p = c .before .before .before .pass in
+    (turned (laid-of M _ (a .pre .0)) (laid-of M _ (a .pre .1 .0)) _ _ _ _ _ _ _ _ _ (l .loop .inv .0) (omega (arith, turn)) (omega (arith, turn)) (p .result .own) (p .result .others) (p .result .mine) (p .result .id) (p .result .rises) (p .ensures .0) (p .ensures .1 .0) (p .ensures .1 .1 .0) (p .ensures .1 .1 .1 .2), omega (arith, turn .loop-test .taken))
+
+sub-fresh : tie.Need-sub-fresh Inv-loop μ-loop
+sub-fresh c = search needs
+
+sub-fresh-2 : tie.Need-sub-fresh-2 Inv-loop μ-loop
+sub-fresh-2 c = search needs
+
+add-t14 : tie.Need-add-t14 Inv-loop μ-loop
+add-t14 c = search needs
+
+add-t39 : tie.Need-add-t39 Inv-loop μ-loop
+add-t39 c = search needs
+
+returns : tie.Need-returns Inv-loop μ-loop
+returns c =
+    let l = c .before .before in
+    let a = l .before .before .before .before .before in
+    (turns-done (laid-of M _ (a .pre .0)) (laid-of M _ (a .pre .1 .0)) 8 (l .loop .inv .0) (omega arith), omega arith)
+
+pub eight-spec : {M : Type 1} → statement M
+eight-spec =
+    tie.close
+    (tie.spec
+    Inv-loop
+    μ-loop
+    mul-mine
+    mul-mine-2
+    shared-slice-read-mine
+    mul-id
+    mul-id-2
+    shared-slice-read-id
+    loop-holds
+    mul-pass
+    add-pass
+    mul-pass-2
+    shared-slice-read-pass
+    mul-pass-3
+    add-pass-2
+    mul-pass-4
+    shared-slice-read-pass-2
+    mul-pass-5
+    add-pass-3
+    mul-pass-6
+    shared-slice-read-pass-3
+    mul-pass-7
+    add-pass-4
+    mul-pass-8
+    shared-slice-read-pass-4
+    pass-requires
+    add-own
+    add-others
+    add-risen
+    add-k
+    loop-less
+    loop-again
+    sub-fresh
+    sub-fresh-2
+    add-t14
+    add-t39
+    returns)
