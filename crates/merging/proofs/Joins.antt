@@ -74,9 +74,6 @@ module _ {t s : List ℕ} {u : ℕ → ℕ} {i j p : ℕ} (f : Joining t s u i j
   wr : Laid M (merged t s) (held (merged t s))
   wr = laid-of M _ (m .ok)
 
-  pub fits : 2 * p ≤ length t
-  fits = f .so-far .fit
-
   -- the last entry that is left of the table, as code reads it
   pub own-id : 1 ≤ i → u (2 * i - 2) ≡ idAt t (i - 1)
   own-id h = let e : 2 * i - 2 ≡ 2 * (i - 1) = omega arith in rw e (f .so-far .front (2 * (i - 1)) (omega arith))
