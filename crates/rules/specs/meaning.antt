@@ -13,12 +13,15 @@ pub mod Steps
 pub mod Runs
 pub mod Lags
 pub mod Acts
-pub mod Histories
 pub mod Text
+pub mod Leb
+pub mod Put
+pub mod Groups
+pub mod Events
+pub mod Histories
 pub mod Number
 pub mod Lines
 pub mod StepLines
-pub mod Put
 pub mod Writing
 pub mod Area
 pub mod Calls

@@ -14,6 +14,17 @@ pub const ROOM_BESIDES: usize = 256;
 // The same for the largest input: 721,152 bytes.
 pub const REPORT_MAX: usize = ROOM_BY_BYTE * INPUT_MAX + ROOM_BESIDES;
 
+// The most entries of a group, and the words that they take.
+pub const GROUP_ENTRIES: usize = 64;
+
+pub const GROUP_WORDS: usize = 2 * GROUP_ENTRIES;
+
+// The room that every group of so many words fits: seven bytes for each, and two more. A length takes five bytes at most and a gap nine, but for one gap of ten,
+// since the ids rise; and the count takes one.
+pub const GROUP_BY_WORD: usize = 7;
+
+pub const GROUP_BESIDES: usize = 2;
+
 // How many entries a ledger has: one for each ordered pair of 16 sites.
 pub const ENTRIES: usize = 256;
 
@@ -139,4 +150,10 @@ pub enum Named {
 pub struct Reported {
     pub refusal: u32,
     pub written: usize,
+}
+
+// What the writer and the reader of groups answer: 0 or the number of the refusal, and how many bytes or entries were written, 0 on a refusal.
+pub struct Grouped {
+    pub refusal: u32,
+    pub count: usize,
 }

@@ -8,7 +8,6 @@ use mathlib.Core.List.{List, [], _∷_, _++_}
 use lib.ListN.{length}
 use lib.Dec.{ltb, eqb}
 use Rattle.rules.specs.declared.Run.{Run}
-use Rattle.rules.specs.declared.Step.{Step}
 use Rattle.rules.specs.declared.Named.{Named}
 use Rattle.rules.specs.declared.Named.the-variants.{Is, NoStep}
 use Rattle.rules.specs.meaning.Operations.{unlessRefused}
@@ -18,6 +17,7 @@ use Rattle.rules.specs.meaning.Put.{put}
 use Rattle.rules.specs.meaning.Refusals.{_when_, firstGiven}
 use Rattle.rules.specs.meaning.States.{State, sightWith}
 use Rattle.rules.specs.meaning.Runs.{judgeTests, stateBy}
+use Rattle.rules.specs.meaning.Events.{Event, takes}
 use Rattle.rules.specs.meaning.Histories.{ran}
 use Rattle.rules.specs.meaning.StepLines.{stepFor}
 use Rattle.rules.specs.meaning.Calls.{namedAnswer, namedAfter}
@@ -31,9 +31,9 @@ asksOf (a ∷ b ∷ c ∷ []) = []
 asksOf (kind ∷ first ∷ second ∷ id ∷ rest) = stepFor kind first second id ∷ asksOf rest
 
 -- the steps among them
-unfoldable pub stepsIn : List Named → List Step
+unfoldable pub stepsIn : List Named → List Event
 stepsIn [] = []
-stepsIn (Is step ∷ asks) = step ∷ stepsIn asks
+stepsIn (Is step ∷ asks) = takes step ∷ stepsIn asks
 stepsIn (NoStep ∷ asks) = stepsIn asks
 
 -- what each is answered in the state after those before it: 11 where the numbers name no step

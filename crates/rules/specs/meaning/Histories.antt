@@ -1,4 +1,4 @@
--- What a list of steps makes of a run, and what its sites take in on the way: the words of demands 2 and 3.
+-- What a list of events makes of a run, and what its sites take in on the way: the words of demands 2 and 3.
 -- Assumes nothing.
 use Prim.Native.Nat.{ℕ, zero, suc, _+_}
 use mathlib.Core.Bool.{Bool, true, false, _&&_, _||_, cond}
@@ -8,33 +8,41 @@ use lib.Dec.{eqb}
 use Rattle.rules.specs.declared.Run.{Run}
 use Rattle.rules.specs.declared.Pair.{Pair}
 use Rattle.rules.specs.declared.Step.{Step}
+use Rattle.rules.specs.declared.Named.{Named}
+use Rattle.rules.specs.declared.Named.the-variants.{Is, NoStep}
 use Rattle.rules.specs.meaning.Lengths.{join}
 use Rattle.rules.specs.meaning.Table.{lengthOf}
 use Rattle.rules.specs.meaning.Serials.{nextSerial}
 use Rattle.rules.specs.meaning.Links.{pairAt}
 use Rattle.rules.specs.meaning.Kinds.{numbers, isSend}
-use Rattle.rules.specs.meaning.States.{State, tableAt, sightOf}
-use Rattle.rules.specs.meaning.Steps.{Entry, siteIn}
-use Rattle.rules.specs.meaning.Runs.{refusalOf, effectOf, after}
+use Rattle.rules.specs.meaning.States.{State, tableAt}
+use Rattle.rules.specs.meaning.Steps.{Entry}
+use Rattle.rules.specs.meaning.Runs.{effectOf}
+use Rattle.rules.specs.meaning.Events.{Event, stepIn, outcome, refusalFor, afterEvent}
 
--- the state after a list of steps, refused ones among them
-unfoldable pub ran : Run → State → List Step → State
+-- the state after a list of events, refused ones among them
+unfoldable pub ran : Run → State → List Event → State
 ran run s [] = s
-ran run s (step ∷ steps) = ran run (after run s step) steps
+ran run s (event ∷ events) = ran run (afterEvent run s event) events
 
 -- the paper's s(e), at one site of a run
 abbrev pub lengthIn : Run → State → ℕ → ℕ → ℕ
 lengthIn run s k e = lengthOf (tableAt run (s .words) k) e
 
--- the step is not refused
-abbrev pub isAccepted : Run → State → Step → Bool
-isAccepted run s step = eqb (refusalOf run s step) 0
+-- the event is not refused
+abbrev pub isAccepted : Run → State → Event → Bool
+isAccepted run s event = eqb (refusalFor run s event) 0
 
 -- ---- "each counter equals the number of accepted steps of its kind"
--- how many accepted steps of a kind a list of steps has
-unfoldable pub acceptedOf : (Step → Bool) → Run → State → List Step → ℕ
+-- it is a step, and of a kind
+abbrev pub isOf : (Step → Bool) → Named → Bool
+isOf kind (Is step) = kind step
+isOf kind NoStep = false
+
+-- how many accepted steps of a kind a list of events has
+unfoldable pub acceptedOf : (Step → Bool) → Run → State → List Event → ℕ
 acceptedOf kind run s [] = 0
-acceptedOf kind run s (step ∷ steps) = cond (isAccepted run s step && kind step) 1 0 + acceptedOf kind run (after run s step) steps
+acceptedOf kind run s (event ∷ events) = cond (isAccepted run s event && isOf kind (stepIn event)) 1 0 + acceptedOf kind run (afterEvent run s event) events
 
 -- ---- what goes out on a link
 -- the entry of the link from site a to site b
@@ -45,11 +53,16 @@ pairIn s a b = pairAt a b (s .ledger .pairs)
 abbrev pub isSendOn : ℕ → ℕ → Step → Bool
 isSendOn a b step = isSend step && (eqb (numbers step .first) a && eqb (numbers step .second) b)
 
--- the serials that a list of steps sends there, in order: that of the parcel of each accepted send
-unfoldable pub sentOn : Run → State → ℕ → ℕ → List Step → List ℕ
+-- the serial of the parcel that a step puts
+abbrev pub serialPut : Run → State → Named → ℕ
+serialPut run s (Is step) = effectOf run s step .post .parcel .serial
+serialPut run s NoStep = 0
+
+-- the serials that a list of events sends there, in order: that of the parcel of each accepted send
+unfoldable pub sentOn : Run → State → ℕ → ℕ → List Event → List ℕ
 sentOn run s a b [] = []
-sentOn run s a b (step ∷ steps) =
-    cond (isAccepted run s step && isSendOn a b step) (effectOf run s step .post .parcel .serial ∷ []) [] ++ sentOn run (after run s step) a b steps
+sentOn run s a b (event ∷ events) =
+    cond (isAccepted run s event && isOf (isSendOn a b) (stepIn event)) (serialPut run s (stepIn event) ∷ []) [] ++ sentOn run (afterEvent run s event) a b events
 
 -- so many serials, from one on
 unfoldable pub serialsFrom : ℕ → ℕ → List ℕ
@@ -57,15 +70,15 @@ serialsFrom n zero = []
 serialsFrom n (suc k) = n ∷ serialsFrom (nextSerial n) k
 
 -- ---- what a site absorbs: "by accepted steps only: its own adds and removes, the updates delivered to it, and the tables merged into it
--- as they then stood"
--- what site k absorbs by one step
-unfoldable pub absorbedIn : Run → State → ℕ → Step → List Entry
-absorbedIn run s k step = cond (isAccepted run s step && eqb (siteIn run (sightOf run s step) step) k) (effectOf run s step .gain .given) []
+-- as they then stood"; a group's "entries are offered and absorbed like those of a merged table"
+-- what site k absorbs by one event
+unfoldable pub absorbedIn : Run → State → ℕ → Event → List Entry
+absorbedIn run s k event = cond (isAccepted run s event && outcome run s event .gaining k) (outcome run s event .given k) []
 
--- and by a list of steps, in order
-unfoldable pub absorbed : Run → State → ℕ → List Step → List Entry
+-- and by a list of events, in order
+unfoldable pub absorbed : Run → State → ℕ → List Event → List Entry
 absorbed run s k [] = []
-absorbed run s k (step ∷ steps) = absorbedIn run s k step ++ absorbed run (after run s step) k steps
+absorbed run s k (event ∷ events) = absorbedIn run s k event ++ absorbed run (afterEvent run s event) k events
 
 -- the largest length of an id among some pairs, "or zero if none"
 unfoldable pub largest : List Entry → ℕ → ℕ
@@ -87,14 +100,14 @@ abbrev pub samePairs : List Entry → List Entry → Bool
 samePairs ps qs = within ps qs && within qs ps
 
 -- ---- what a site is offered: "by adds, deliveries and merges, refused ones too"
--- what site k is offered by one step
-unfoldable pub offeredIn : Run → State → ℕ → Step → List ℕ
-offeredIn run s k step = cond (eqb (siteIn run (sightOf run s step) step) k) (effectOf run s step .gain .offer) []
+-- what site k is offered by one event
+unfoldable pub offeredIn : Run → State → ℕ → Event → List ℕ
+offeredIn run s k event = cond (outcome run s event .gaining k) (outcome run s event .offer k) []
 
--- and by a list of steps
-unfoldable pub offered : Run → State → ℕ → List Step → List ℕ
+-- and by a list of events
+unfoldable pub offered : Run → State → ℕ → List Event → List ℕ
 offered run s k [] = []
-offered run s k (step ∷ steps) = offeredIn run s k step ++ offered run (after run s step) k steps
+offered run s k (event ∷ events) = offeredIn run s k event ++ offered run (afterEvent run s event) k events
 
 -- an id is among some ids
 unfoldable pub among : ℕ → List ℕ → Bool
