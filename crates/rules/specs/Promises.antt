@@ -3,7 +3,7 @@
 -- Assumes nothing.
 use Prim.Native.Nat.{ℕ, suc, _+_, _*_, _/_, _%_, _^_, _≤_, _<_}
 use mathlib.Core.Bool.{true, false, _&&_, cond}
-use mathlib.Core.Path.{_≡_}
+use mathlib.Core.Path.{_≡_, refl}
 use mathlib.Core.List.{List, _∷_, _++_}
 use lib.ListN.{length, getD}
 use lib.Dec.{eqb, ltb}
@@ -11,6 +11,7 @@ use lib.IntN.{pos, natAbs}
 use Rattle.rules.specs.declared.Run.{Run}
 use Rattle.rules.specs.declared.Answer.{Answer}
 use Rattle.rules.specs.declared.Reported.{Reported}
+use Rattle.rules.specs.declared.Grouped.{Grouped}
 use Rattle.rules.specs.declared.Pair.{Pair}
 use Rattle.rules.specs.declared.Step.{Step}
 use Rattle.rules.specs.declared.Step.the-variants.{Add, Remove, Query, Merge, Deliver}
@@ -23,10 +24,13 @@ use Rattle.rules.specs.meaning.Parcels.{waiting}
 use Rattle.rules.specs.meaning.Serials.{serials, largestSerial, half, nextSerial, isNewer, wrapped}
 use Rattle.rules.specs.meaning.Links.{noPair, linked, stands}
 use Rattle.rules.specs.meaning.Kinds.{isSend, isAgain, isDeliver, isLose, slotOf, linkOf}
-use Rattle.rules.specs.meaning.States.{State, lent, tableAt, sightOf, parcelAt}
-use Rattle.rules.specs.meaning.Steps.{siteIn}
+use Rattle.rules.specs.meaning.States.{State, lent, tableAt, parcelAt}
 use Rattle.rules.specs.meaning.Runs.{refusalOf, valueOf, answerOf, after, freshRefusal, afterFresh, Stepped, Freshened}
 use Rattle.rules.specs.meaning.Lags.{lastSent, lagAnswer}
+use Rattle.rules.specs.meaning.Text.{front}
+use Rattle.rules.specs.meaning.Leb.{leb128, readLeb}
+use Rattle.rules.specs.meaning.Groups.{isGroup, groupBytes, group, groupOf, entriesIn}
+use Rattle.rules.specs.meaning.Events.{Event, takes, absorbs, outcome, refusalFor, answerFor, afterEvent}
 use Rattle.rules.specs.meaning.Histories.{ran, acceptedOf, pairIn, isSendOn, sentOn, serialsFrom, absorbed, largest, samePairs, offered, among, distinct, lengthIn}
 use Rattle.rules.specs.meaning.Lines.{textOf, namesStep, numbersOf}
 use Rattle.rules.specs.meaning.StepLines.{lineOf, stepOf, Fits}
@@ -35,10 +39,15 @@ use Rattle.rules.specs.meaning.Bursts.{asksOf, stepsIn, Handled}
 use Rattle.rules.specs.meaning.Members.{Answered}
 use Rattle.rules.specs.meaning.Writing.{Filled}
 use Rattle.rules.specs.meaning.Reports.{Told, Printed}
+use Rattle.rules.specs.meaning.Groups.{Written, Entered}
+use Rattle.rules.specs.meaning.Events.{Event, Happened}
 use Rattle.rules.specs.laws.table.Counts as Counts
 use Rattle.rules.specs.laws.Serials as Serials
 use Rattle.rules.specs.laws.Serials.{Stand}
+use Rattle.rules.specs.laws.group.Leb as Leb
+use Rattle.rules.specs.laws.group.Groups as Groups
 use Rattle.rules.specs.laws.run.Steps as Steps
+use Rattle.rules.specs.laws.run.Events as Events
 use Rattle.rules.specs.laws.run.Links.{OffRows}
 use Rattle.rules.specs.laws.run.Reads as Reads
 use Rattle.rules.specs.laws.run.Reads.{SameLinks}
@@ -49,6 +58,7 @@ use Rattle.rules.specs.laws.history.Counting as Counting
 use Rattle.rules.specs.laws.history.Links as Links
 use Rattle.rules.specs.laws.history.Absorbing as Absorbing
 use Rattle.rules.specs.laws.history.Room as Room
+use Rattle.rules.specs.laws.history.Groups as Absorbed
 use Rattle.rules.specs.laws.line.Lines as Lines
 use Rattle.rules.specs.laws.line.Steps as StepLines
 use Rattle.rules.specs.laws.run.Bursts as Bursts
@@ -60,6 +70,17 @@ use Rattle.rules.specs.laws.Determined as Determined
 pub refused-writes-nothing : (run : Run) (s : State) (step : Step) (r : ℕ) → refusalOf run s step ≡ suc r
     → (after run s step ≡ s) × (answerOf run s step ≡ record { refusal = suc r; value = 0 })
 refused-writes-nothing run s step r h = (Steps.refused-stays run s step r h, Steps.refused-answer run s step r h)
+
+-- ---- what can happen in a run: its eight steps, and the operations that are no step. A step is the event that takes it, so what is promised of events is
+-- promised of steps
+pub a-step-is-its-event : (run : Run) (s : State) (step : Step) → (answerFor run s (takes step) ≡ answerOf run s step) × (afterEvent run s (takes step) ≡ after run s step)
+unfolding outcome refusalFor afterEvent after
+a-step-is-its-event run s step = (refl, refl)
+
+-- demand 1 of every operation
+pub refused-operation-writes-nothing : (run : Run) (s : State) (event : Event) (r : ℕ) → refusalFor run s event ≡ suc r
+    → (afterEvent run s event ≡ s) × (answerFor run s event ≡ record { refusal = suc r; value = 0 })
+refused-operation-writes-nothing run s event r h = (Events.refused-event-stays run s event r h, rw h)
 
 -- ---- demand 2: "Adding, removing, merging and membership give exactly what the 2020 paper defines"
 module _ (run : Run) (s : State) where
@@ -118,70 +139,70 @@ written-is-read-as-numbers = Lines.written-read
 pub read-is-written : (line : List ℕ) (step : Step) → stepOf line ≡ Is step → (lineOf step ≡ line) × Fits step
 read-is-written = StepLines.read-step
 
--- ---- demands 2 and 3: "Start fresh and take any list of steps, refused ones among them."
+-- ---- demands 2 and 3: "Start fresh and take any list of steps, refused ones among them", and of the other operations
 module _ (run : Run) (first : ℕ) (s : State) (fresh : freshRefusal run (length (s .words)) (length (s .slots)) ≡ 0) where
   abbrev pub start : State
   start = afterFresh run first s
 
   -- "From a fresh start each counter is the number of accepted steps of its kind"
-  pub counters-count : (steps : List Step)
-      → (ran run start steps .ledger .counts .sent ≡ acceptedOf isSend run start steps)
-      × (ran run start steps .ledger .counts .copied ≡ acceptedOf isAgain run start steps)
-      × (ran run start steps .ledger .counts .absorbed ≡ acceptedOf isDeliver run start steps)
-      × (ran run start steps .ledger .counts .lost ≡ acceptedOf isLose run start steps)
-  counters-count steps = (
-    Counting.sent-is-counted run first s fresh steps,
-    Counting.copied-is-counted run first s fresh steps,
-    Counting.absorbed-is-counted run first s fresh steps,
-    Counting.lost-is-counted run first s fresh steps,
+  pub counters-count : (events : List Event)
+      → (ran run start events .ledger .counts .sent ≡ acceptedOf isSend run start events)
+      × (ran run start events .ledger .counts .copied ≡ acceptedOf isAgain run start events)
+      × (ran run start events .ledger .counts .absorbed ≡ acceptedOf isDeliver run start events)
+      × (ran run start events .ledger .counts .lost ≡ acceptedOf isLose run start events)
+  counters-count events = (
+    Counting.sent-is-counted run first s fresh events,
+    Counting.copied-is-counted run first s fresh events,
+    Counting.absorbed-is-counted run first s fresh events,
+    Counting.lost-is-counted run first s fresh events,
   )
 
   -- "sent + copied = absorbed + lost + waiting"
-  pub books-balance : (steps : List Step)
-      → ran run start steps .ledger .counts .sent + ran run start steps .ledger .counts .copied
-      ≡ ran run start steps .ledger .counts .absorbed + ran run start steps .ledger .counts .lost + waiting (ran run start steps .slots)
+  pub books-balance : (events : List Event)
+      → ran run start events .ledger .counts .sent + ran run start events .ledger .counts .copied
+      ≡ ran run start events .ledger .counts .absorbed + ran run start events .ledger .counts .lost + waiting (ran run start events .slots)
   books-balance = Counting.books-balance run first s fresh
 
-  -- no step of the run is refused with 1 or with 2
-  pub never-1-or-2 : (before : List Step) (step : Step) → (refusalOf run (ran run start before) step ≡ 1 → ⊥) × (refusalOf run (ran run start before) step ≡ 2 → ⊥)
-  never-1-or-2 before step = (Counting.never-1 run first s fresh before step, Counting.never-2 run first s fresh before step)
+  -- the state stays sound: nothing in the run is refused with 1 or with 2
+  pub never-1-or-2 : (before : List Event) (event : Event) → (refusalFor run (ran run start before) event ≡ 1 → ⊥) × (refusalFor run (ran run start before) event ≡ 2 → ⊥)
+  never-1-or-2 before event = (Counting.never-1 run first s fresh before event, Counting.never-2 run first s fresh before event)
 
   -- "For each site and id, the length held is the largest it has absorbed .., or zero if none."
-  pub held-is-largest-absorbed : (steps : List Step) (k e : ℕ) → lengthOf (tableAt run (ran run start steps .words) k) e ≡ largest (absorbed run start k steps) e
+  pub held-is-largest-absorbed : (events : List Event) (k e : ℕ) → lengthOf (tableAt run (ran run start events .words) k) e ≡ largest (absorbed run start k events) e
   held-is-largest-absorbed = Absorbing.held-is-largest run first s fresh
 
   -- "So two sites in one run that absorbed the same set of id and length pairs, in whichever order and however often, hold equal tables."
-  pub same-pairs-same-tables : (steps : List Step) (j k : ℕ) → j < run .sites → k < run .sites
-      → samePairs (absorbed run start j steps) (absorbed run start k steps) ≡ true
-      → tableAt run (ran run start steps .words) j ≡ tableAt run (ran run start steps .words) k
+  pub same-pairs-same-tables : (events : List Event) (j k : ℕ) → j < run .sites → k < run .sites
+      → samePairs (absorbed run start j events) (absorbed run start k events) ≡ true
+      → tableAt run (ran run start events .words) j ≡ tableAt run (ran run start events .words) k
   same-pairs-same-tables = Absorbing.same-pairs-same-tables run first s fresh
 
   -- "And a site that is offered, over the whole run .., no more distinct ids than a table holds never refuses one for lack of room."
-  pub room-suffices : (before : List Step) (step : Step) (rest : List Step) (k : ℕ) → k < run .sites → siteIn run (sightOf run (ran run start before) step) step ≡ k
-      → distinct (offered run start k (before ++ (step ∷ rest))) ≤ run .capacity → refusalOf run (ran run start before) step ≡ 8 → ⊥
+  pub room-suffices : (before : List Event) (event : Event) (rest : List Event) (k : ℕ) → k < run .sites → outcome run (ran run start before) event .gaining k ≡ true
+      → distinct (offered run start k (before ++ (event ∷ rest))) ≤ run .capacity → refusalFor run (ran run start before) event ≡ 8 → ⊥
   room-suffices = Room.room-suffices run first s fresh
 
   -- ---- request 2: the links of the run, in a ledger of 256 entries and with a first serial of 32 bits, as their types have it
   module _ (fits : first ≤ largestSerial) (whole : length (s .ledger .pairs) ≡ 256) (a b : ℕ) (la : a < run .sites) (lb : b < run .sites) (d : a ≡ b → ⊥) where
     -- "each ordered pair of different sites starts at one first serial .. and goes up by one for each accepted send, wrapping after 4,294,967,295"
-    pub next-serial-counts-the-sends : (steps : List Step) → pairIn (ran run start steps) a b .next ≡ (first + acceptedOf (isSendOn a b) run start steps) % serials
+    pub next-serial-counts-the-sends : (events : List Event) → pairIn (ran run start events) a b .next ≡ (first + acceptedOf (isSendOn a b) run start events) % serials
     next-serial-counts-the-sends = Links.next-is-counted run first s fresh fits whole a b la lb d
 
     -- so the serials that go out are those from the first on, in order
-    pub serials-go-out-in-order : (steps : List Step) → sentOn run start a b steps ≡ serialsFrom first (acceptedOf (isSendOn a b) run start steps)
+    pub serials-go-out-in-order : (events : List Event) → sentOn run start a b events ≡ serialsFrom first (acceptedOf (isSendOn a b) run start events)
     serials-go-out-in-order = Links.sent-in-order run first s fresh fits whole a b la lb d
 
     -- "with one mark for nothing sent": it stands until the first of them
-    pub unsent-until-sent : (steps : List Step) → pairIn (ran run start steps) a b .unsent ≡ cond (eqb (acceptedOf (isSendOn a b) run start steps) 0) 1 0
+    pub unsent-until-sent : (events : List Event) → pairIn (ran run start events) a b .unsent ≡ cond (eqb (acceptedOf (isSendOn a b) run start events) 0) 1 0
     unsent-until-sent = Links.unsent-until-sent run first s fresh fits whole a b la lb d
 
     -- "and the newest one heard": once something was heard, it is a serial that went out on this link in this run
-    pub heard-was-sent : (steps : List Step) → stands (pairIn (ran run start steps) a b .unheard) ≡ false
-        → among (pairIn (ran run start steps) a b .heard) (sentOn run start a b steps) ≡ true
+    pub heard-was-sent : (events : List Event) → stands (pairIn (ran run start events) a b .unheard) ≡ false
+        → among (pairIn (ran run start events) a b .heard) (sentOn run start a b events) ≡ true
     heard-was-sent = Links.heard-was-sent run first s fresh fits whole a b la lb d
 
--- "It never falls": at no step, in no state
-pub never-falls : (run : Run) (s : State) (step : Step) (k e : ℕ) → lengthOf (tableAt run (s .words) k) e ≤ lengthOf (tableAt run (after run s step .words) k) e
+-- "It never falls": by nothing that happens, in no state
+pub never-falls : (run : Run) (s : State) (event : Event) (k e : ℕ) → lengthIn run s k e ≤ lengthIn run (afterEvent run s event) k e
 never-falls = Absorbing.never-falls
 
 -- ---- request 2
@@ -214,6 +235,37 @@ pub other-pairs-are-not-written : (run : Run) (s : State) (i : ℕ)
     → ((step : Step) → (i ≡ linkOf (run .sites) (parcelAt s (slotOf step)) step → ⊥) → getD (after run s step .ledger .pairs) i noPair ≡ getD (s .ledger .pairs) i noPair)
     × ((first : ℕ) → OffRows i (linked (run .sites)) (linked (run .sites)) → getD (afterFresh run first s .ledger .pairs) i noPair ≡ getD (s .ledger .pairs) i noPair)
 other-pairs-are-not-written run s i = (λ step ne. Reads.only-named-link run s step i ne, λ first off. Reads.fresh-leaves run first s i off)
+
+-- ---- request 4
+-- "A group has one byte string and a byte string at most one group; writing and reading undo each other."
+pub a-group-written-is-read : (es : List ℕ) → isGroup es ≡ true → groupOf (groupBytes es) ≡ group es
+a-group-written-is-read = Groups.group-read
+
+pub a-group-read-is-written : (bs es : List ℕ) → groupOf bs ≡ group es → (groupBytes es ≡ bs) × (isGroup es ≡ true)
+a-group-read-is-written = Groups.group-written
+
+-- "A group never passes 961 bytes": nor, since its ids rise, 898
+pub a-group-never-passes-961-bytes : (es : List ℕ) → isGroup es ≡ true → (length (groupBytes es) ≤ 961) × (length (groupBytes es) ≤ 898)
+a-group-never-passes-961-bytes es h = (Groups.never-past-961 es h, Groups.group-within es h)
+
+-- "All are unsigned LEB128 .., but only in the shortest form": a number is read back as it was written, and no other bytes are read as it
+pub a-number-has-one-form : (n : ℕ) (bs rest : List ℕ) → n < 2 ^ 64 → (readLeb (leb128 n ++ rest) ≡ front n rest) × (readLeb bs ≡ front n rest → bs ≡ leb128 n ++ rest)
+a-number-has-one-form n bs rest h = (Leb.leb-read n rest h, λ e. Leb.read-leb bs n rest e .0)
+
+-- "Absorbing a group's bytes at a site is all or none": accepted, every entry is joined in there and no other length changes; refused, by
+-- `refused-operation-writes-nothing`, none is. "the ledger doesn't count them": it and the slots stay
+module _ (run : Run) (s : State) (k : ℕ) (bytes : List ℕ) where
+  pub absorb-is-the-papers : refusalFor run s (absorbs k bytes) ≡ 0 → (j e : ℕ)
+      → lengthIn run (afterEvent run s (absorbs k bytes)) j e ≡ cond (eqb k j) (join (lengthIn run s j e) (lengthOf (entriesIn bytes) e)) (lengthIn run s j e)
+  absorb-is-the-papers = Absorbed.absorb-joins run s k bytes
+
+  -- "and returns how many lengths rose": counted over the table that it leaves, against the one before
+  pub absorb-counts-the-rises : refusalFor run s (absorbs k bytes) ≡ 0
+      → answerFor run s (absorbs k bytes) .value ≡ rises (tableAt run (s .words) k) (tableAt run (afterEvent run s (absorbs k bytes) .words) k)
+  absorb-counts-the-rises ok = rw ok (Absorbed.absorb-rises run s k bytes ok)
+
+  pub absorb-leaves-the-ledger : (afterEvent run s (absorbs k bytes) .slots ≡ s .slots) × (afterEvent run s (absorbs k bytes) .ledger ≡ s .ledger)
+  absorb-leaves-the-ledger = Absorbed.absorb-leaves run s k bytes
 
 -- ---- a burst, many steps in one call with the state judged once, is its steps one by one: the state that it leaves is the one after them, and the
 -- answer to each ask, in its two places, is that of the step in the state after the asks before it. So what is promised of a list of steps is promised
@@ -263,3 +315,13 @@ report-determined = Determined.told-determined
 
 pub print-determined : (input before : List ℕ) {n n′ : ℕ} {now now′ : List ℕ} → Printed input before n now → Printed input before n′ now′ → (n ≡ n′) × (now ≡ now′)
 print-determined = Determined.printed-determined
+
+pub operation-determined : (run : Run) (before : State) (event : Event) {r r′ : Answer} {left left′ : State}
+    → Happened run before event r left → Happened run before event r′ left′ → (r ≡ r′) × (left ≡ left′)
+operation-determined = Determined.happened-determined
+
+pub group-writer-determined : (es before : List ℕ) {r r′ : Grouped} {now now′ : List ℕ} → Written es before r now → Written es before r′ now′ → (r ≡ r′) × (now ≡ now′)
+group-writer-determined = Determined.written-determined
+
+pub group-reader-determined : (bs before : List ℕ) {r r′ : Grouped} {now now′ : List ℕ} → Entered bs before r now → Entered bs before r′ now′ → (r ≡ r′) × (now ≡ now′)
+group-reader-determined = Determined.entered-determined

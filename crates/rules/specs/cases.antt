@@ -6,3 +6,4 @@ pub mod Room
 pub mod Report
 pub mod Burst
 pub mod Serials
+pub mod Groups

@@ -2,6 +2,7 @@
 pub mod Lengths
 pub mod Serials
 pub mod table
+pub mod group
 pub mod run
 pub mod history
 pub mod Put

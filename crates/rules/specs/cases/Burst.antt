@@ -18,6 +18,7 @@ use Rattle.rules.specs.meaning.Kinds.{slotOf, linkOf, numbers}
 use Rattle.rules.specs.meaning.States.{State, lent, tableAt, withTable, sizesRight, tablesSound, allSound}
 use Rattle.rules.specs.meaning.Steps.{effect}
 use Rattle.rules.specs.meaning.Runs.{refusalIn, refusalOf, valueOf, after}
+use Rattle.rules.specs.meaning.Events.{outcome, refusalFor, afterEvent}
 use Rattle.rules.specs.meaning.Histories.{ran}
 use Rattle.rules.specs.meaning.Lines.{namesStep}
 use Rattle.rules.specs.meaning.StepLines.{stepFor}
@@ -44,7 +45,7 @@ abbrev left : State
 left = lent (7 ∷ 1 ∷ 7 ∷ 1 ∷ []) (noParcel ∷ noParcel ∷ []) (ledger-heard 1 0 1 0)
 
 pub burst-case : Handled sizes before asks given 0 left said
-unfolding asksOf stepsIn answersTo burstRefusal put namedAnswer namedAfter namesStep stepFor listed afterAdd afterRemove unused soundFrom lengthOf held shown rank push withLength raised heldWith merged newIds rises raiseRefusal raiseAnswer raiseTable removedLength removeRefusal removeTable mergeRefusal mergeAnswer mergeTable isFree isOccupied slotsSound waiting lowestFree countsSound oneMore raisedIf tableAt withTable sizesRight tablesSound allSound slotOf numbers firstGiven refusalIn effect refusalOf valueOf after ran linkOf linkBetween pairSound overRow overRows linksSound linksBegun movesOn heardPair incomparable nextSerial isNewer ahead isOrdered
+unfolding asksOf stepsIn answersTo burstRefusal put namedAnswer namedAfter namesStep stepFor listed afterAdd afterRemove unused soundFrom lengthOf held shown rank push withLength raised heldWith merged newIds rises raiseRefusal raiseAnswer raiseTable removedLength removeRefusal removeTable mergeRefusal mergeAnswer mergeTable isFree isOccupied slotsSound waiting lowestFree countsSound oneMore raisedIf tableAt withTable sizesRight tablesSound allSound slotOf numbers firstGiven refusalIn effect refusalOf valueOf after outcome refusalFor afterEvent ran linkOf linkBetween pairSound overRow overRows linksSound linksBegun movesOn heardPair incomparable nextSerial isNewer ahead isOrdered
 burst-case = record { refusal = refl; state = refl; answers = refl }
 
 -- words of another number, and a table that is not sound

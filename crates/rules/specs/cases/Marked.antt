@@ -28,7 +28,10 @@ use Rattle.rules.specs.meaning.Kinds.{slotOf, linkOf, numbers}
 use Rattle.rules.specs.meaning.States.{State, lent, tableAt, withTable, sizesRight, tablesSound, allSound}
 use Rattle.rules.specs.meaning.Steps.{effect}
 use Rattle.rules.specs.meaning.Runs.{refusalIn, refusalOf, valueOf, answerOf, after, freshRefusal, afterFresh}
+use Rattle.rules.specs.meaning.Events.{Event, takes, absorbs, absorbRefusal, outcome, refusalFor, answerFor, afterEvent}
 use Rattle.rules.specs.meaning.Put.{put}
+use Rattle.rules.specs.meaning.Leb.{lebUpTo, leb128, carried, lebValue, of64, readLeb}
+use Rattle.rules.specs.meaning.Groups.{fieldsFrom, groupBytes, entriesFrom, groupOf, entriesIn, formsNone}
 use Rattle.rules.specs.meaning.Members.{bitsOf, bytesOf, answersOf, membersRefusal, membersAfter}
 use Rattle.rules.specs.meaning.Operations.{queryAnswer, raiseRefusal, raiseAnswer, raiseTable, addAnswer, addTable, absorbAnswer, absorbTable, removedLength, removeRefusal, removeAnswer, removeTable, mergeRefusal, mergeAnswer, mergeTable}
 
@@ -53,6 +56,11 @@ refuses a r = eqb (a .refusal) r && eqb (a .value) 0
 abbrev pub isAt : Found → ℕ → Bool
 isAt (At j) i = eqb j i
 isAt Absent i = false
+
+-- a list of steps, as what happens in a run
+abbrev pub taken : List Step → List Event
+taken [] = []
+taken (step ∷ steps) = takes step ∷ taken steps
 
 -- ---- the tables of the examples
 abbrev pub empty : List ℕ
@@ -157,6 +165,13 @@ step-refused run s step r = refuses (answerOf run s step) r && same-state (after
 abbrev pub step-taken : Run → State → Step → ℕ → State → Bool
 step-taken run s step v t = gives (answerOf run s step) v && same-state (after run s step) t
 
+-- the same of anything that happens
+abbrev pub event-refused : Run → State → Event → ℕ → Bool
+event-refused run s event r = refuses (answerFor run s event) r && same-state (afterEvent run s event) s
+
+abbrev pub event-taken : Run → State → Event → ℕ → State → Bool
+event-taken run s event v t = gives (answerFor run s event) v && same-state (afterEvent run s event) t
+
 unfoldable pub cases : List Bool
 cases =
     -- P1 empty table, query 7: 0
@@ -187,6 +202,8 @@ cases =
     -- P12 asking 7, 8, 9 of P7's result gives the byte 6; 9 ids take two bytes, and later bytes are kept
     ∷ eqb (membersRefusal seven-eight-nine 3 1) 0 ∷ same (membersAfter seven-eight-nine (7 ∷ 8 ∷ 9 ∷ []) (255 ∷ 255 ∷ [])) (6 ∷ 255 ∷ [])
     ∷ same (membersAfter seven-eight-nine (8 ∷ 8 ∷ 7 ∷ 9 ∷ 0 ∷ 0 ∷ 0 ∷ 8 ∷ 9 ∷ []) (255 ∷ 255 ∷ 255 ∷ [])) (139 ∷ 1 ∷ 255 ∷ [])
+    -- a group: {7: 2, 8: 3} are the bytes 2, 7, 1, 0, 2, and they are read back as it
+    ∷ same (groupBytes (7 ∷ 2 ∷ 8 ∷ 3 ∷ [])) (2 ∷ 7 ∷ 1 ∷ 0 ∷ 2 ∷ []) ∷ same (entriesIn (2 ∷ 7 ∷ 1 ∷ 0 ∷ 2 ∷ [])) (7 ∷ 2 ∷ 8 ∷ 3 ∷ [])
     -- membership's own order of refusals: 1, 2, 14, 13; no ids asked, nothing written
     ∷ eqb (membersRefusal (0 ∷ 1 ∷ 1 ∷ []) 4097 0) 1 ∷ eqb (membersRefusal (seven 0) 4097 0) 2
     ∷ eqb (membersRefusal (seven 1) 4097 0) 14 ∷ eqb (membersRefusal (seven 1) 4096 511) 13 ∷ eqb (membersRefusal (seven 1) 4096 512) 0
@@ -211,7 +228,14 @@ cases =
     ∷ step-taken two-sites seven-at-0 (Send 0 1 7) 0 (lent (7 ∷ 1 ∷ 0 ∷ 0 ∷ []) (parcel 1 7 1 ∷ []) (ledger-of 1 0 0 0))
     ∷ step-taken two-sites (lent (7 ∷ 1 ∷ 0 ∷ 0 ∷ []) (noParcel ∷ parcel 1 7 1 ∷ noParcel ∷ []) (ledger-of 1 0 0 0)) (Again 1) 0 (lent (7 ∷ 1 ∷ 0 ∷ 0 ∷ []) (parcel 1 7 1 ∷ parcel 1 7 1 ∷ noParcel ∷ []) (ledger-of 1 1 0 0))
     ∷ step-taken two-sites seven-at-0 (Merge 0 1) 1 (lent (7 ∷ 1 ∷ 7 ∷ 1 ∷ []) (noParcel ∷ []) (ledger-with noCounts (startPair 3)))
+    -- a group is joined in whole, {7: 2} at site 1 and {8: 3} there, returns how many lengths rose, and is counted nowhere, so that a full count does not refuse it
+    ∷ event-taken two-sites seven-at-0 (absorbs 1 (1 ∷ 7 ∷ 1 ∷ [])) 1 (lent (7 ∷ 1 ∷ 7 ∷ 2 ∷ []) (noParcel ∷ []) (ledger-with noCounts (startPair 3)))
+    ∷ event-taken two-sites (waiting-for-1 8 1 (ledger-of M 1 M 0)) (absorbs 1 (1 ∷ 8 ∷ 2 ∷ [])) 1 (lent (7 ∷ 1 ∷ 8 ∷ 3 ∷ []) (parcel 1 8 1 ∷ []) (ledger-of M 1 M 0))
+    ∷ event-taken two-sites seven-at-0 (absorbs 0 (0 ∷ [])) 0 seven-at-0 ∷ event-refused two-sites seven-at-0 (absorbs 0 (2 ∷ 7 ∷ 1 ∷ 0 ∷ 0 ∷ [])) 8
     -- the order of the refusals: each state would also earn the later number
+    ∷ event-refused (record { sites = 2; capacity = 2 }) (lent (7 ∷ 0 ∷ 0 ∷ 0 ∷ []) (noParcel ∷ []) (ledger-with noCounts noise)) (absorbs 9 []) 1
+    ∷ event-refused two-sites (lent (7 ∷ 0 ∷ 0 ∷ 0 ∷ []) (noParcel ∷ []) (ledger-with noCounts noise)) (absorbs 9 []) 2
+    ∷ event-refused two-sites nothing (absorbs 2 []) 3 ∷ event-refused two-sites nothing (absorbs 1 []) 17
     ∷ step-refused (record { sites = 2; capacity = 2 }) (lent (7 ∷ 0 ∷ 0 ∷ 0 ∷ []) (noParcel ∷ []) (ledger-with noCounts noise)) (Add 9 7) 1
     ∷ step-refused two-sites (lent (7 ∷ 0 ∷ 0 ∷ 0 ∷ []) (noParcel ∷ []) (ledger-with noCounts noise)) (Add 9 7) 2
     ∷ step-refused two-sites nothing (Send 5 5 7) 3 ∷ step-refused two-sites nothing (Merge 5 5) 3
@@ -230,5 +254,5 @@ cases =
     ∷ []
 
 pub cases-hold : all cases ≡ true
-unfolding cases listed afterAdd afterRemove unused soundFrom lengthOf held shown countBelow rank push withLength raised heldWith merged newIds rises raiseRefusal raiseAnswer raiseTable removedLength removeRefusal removeTable mergeRefusal mergeAnswer mergeTable isFree isOccupied slotsSound waiting lowestFree cleared countsSound oneMore raisedIf tableAt withTable sizesRight tablesSound allSound slotOf numbers firstGiven refusalIn effect refusalOf valueOf after freshRefusal afterFresh linkOf linkBetween pairSound overRow overRows linksSound linksBegun movesOn heardPair incomparable nextSerial isNewer ahead isOrdered put bitsOf bytesOf answersOf membersRefusal membersAfter
+unfolding cases listed afterAdd afterRemove unused soundFrom lengthOf held shown countBelow rank push withLength raised heldWith merged newIds rises raiseRefusal raiseAnswer raiseTable removedLength removeRefusal removeTable mergeRefusal mergeAnswer mergeTable isFree isOccupied slotsSound waiting lowestFree cleared countsSound oneMore raisedIf tableAt withTable sizesRight tablesSound allSound slotOf numbers firstGiven refusalIn effect refusalOf valueOf after freshRefusal afterFresh linkOf linkBetween pairSound overRow overRows linksSound linksBegun movesOn heardPair incomparable nextSerial isNewer ahead isOrdered put bitsOf bytesOf answersOf membersRefusal membersAfter lebUpTo leb128 carried lebValue of64 readLeb fieldsFrom groupBytes entriesFrom groupOf entriesIn formsNone absorbRefusal outcome refusalFor afterEvent
 cases-hold = refl

@@ -23,9 +23,10 @@ use Rattle.rules.specs.meaning.Links.{pairAt, startPair, linkBetween, pa
 use Rattle.rules.specs.meaning.Kinds.{slotOf, linkOf, isSend, isAgain, isDeliver, isLose, numbers}
 use Rattle.rules.specs.meaning.States.{State, lent, tableAt, withTable, sizesRight, tablesSound, allSound}
 use Rattle.rules.specs.meaning.Steps.{Entry, entriesOf, siteIn, idsOf, effect}
-use Rattle.rules.specs.meaning.Runs.{refusalIn, refusalOf, valueOf, answerOf, after, freshRefusal, afterFresh}
+use Rattle.rules.specs.meaning.Runs.{refusalIn, refusalOf, valueOf, freshRefusal, afterFresh}
+use Rattle.rules.specs.meaning.Events.{Event, outcome, refusalFor, answerFor, afterEvent}
 use Rattle.rules.specs.meaning.Histories.{ran, acceptedOf, absorbedIn, absorbed, largest, occurs, within, samePairs, offeredIn, offered, among, distinct}
-use Rattle.rules.specs.cases.Marked.{all, same, counts-of, ledger-of, parcel, pair, same-counts, same-pair}
+use Rattle.rules.specs.cases.Marked.{all, same, taken, counts-of, ledger-of, parcel, pair, same-counts, same-pair}
 
 -- a pair of an id and a length
 abbrev pub entry : ℕ → ℕ → Entry
@@ -38,14 +39,14 @@ same-pairs [] (q ∷ qs) = false
 same-pairs (p ∷ ps) [] = false
 same-pairs (p ∷ ps) (q ∷ qs) = eqb (p .id) (q .id) && (eqb (p .length) (q .length) && same-pairs ps qs)
 
--- the refusal numbers of a list of steps, in order, and the other results
-unfoldable pub refusals : Run → State → List Step → List ℕ
+-- the refusal numbers of a list of events, in order, and the other results
+unfoldable pub refusals : Run → State → List Event → List ℕ
 refusals run s [] = []
-refusals run s (step ∷ steps) = answerOf run s step .refusal ∷ refusals run (after run s step) steps
+refusals run s (event ∷ events) = answerFor run s event .refusal ∷ refusals run (afterEvent run s event) events
 
-unfoldable pub values : Run → State → List Step → List ℕ
+unfoldable pub values : Run → State → List Event → List ℕ
 values run s [] = []
-values run s (step ∷ steps) = answerOf run s step .value ∷ values run (after run s step) steps
+values run s (event ∷ events) = answerFor run s event .value ∷ values run (afterEvent run s event) events
 
 -- ---- the sample: "runs 3 sites, C = 8, 8 slots, from fresh"
 abbrev pub sampleRun : Run
@@ -60,8 +61,11 @@ sampleSteps =
     Add 0 7 ∷ Add 1 7 ∷ Send 1 2 7 ∷ Deliver 0 ∷ Remove 0 7 ∷ Remove 1 7 ∷ Remove 2 7 ∷ Add 1 7 ∷ Send 0 1 7 ∷ Again 0 ∷ Deliver 1 ∷ Lose 0
     ∷ Deliver 0 ∷ Merge 1 2 ∷ Remove 2 7 ∷ Query 1 7 ∷ Query 2 7 ∷ []
 
+abbrev pub sampleEvents : List Event
+sampleEvents = taken sampleSteps
+
 abbrev pub sampleEnd : State
-sampleEnd = ran sampleRun sampleStart sampleSteps
+sampleEnd = ran sampleRun sampleStart sampleEvents
 
 -- what each site absorbs, in order
 abbrev pub absorbed0 : List Entry
@@ -94,30 +98,30 @@ endTable k = tableAt sampleRun (sampleEnd .words) k
 
 -- "the length held is the largest it has absorbed", at one site for one id
 abbrev pub isLargest : ℕ → ℕ → Bool
-isLargest k e = eqb (lengthOf (endTable k) e) (largest (absorbed sampleRun sampleStart k sampleSteps) e)
+isLargest k e = eqb (lengthOf (endTable k) e) (largest (absorbed sampleRun sampleStart k sampleEvents) e)
 
 -- how many accepted steps of a kind the sample has
 abbrev pub sampleCount : (Step → Bool) → ℕ
-sampleCount kind = acceptedOf kind sampleRun sampleStart sampleSteps
+sampleCount kind = acceptedOf kind sampleRun sampleStart sampleEvents
 
 unfoldable pub sampleCases : List Bool
 sampleCases =
     -- the absorbed pairs of each site
-    same-pairs (absorbed sampleRun sampleStart 0 sampleSteps) absorbed0
-    ∷ same-pairs (absorbed sampleRun sampleStart 1 sampleSteps) absorbed1
-    ∷ same-pairs (absorbed sampleRun sampleStart 2 sampleSteps) absorbed2
+    same-pairs (absorbed sampleRun sampleStart 0 sampleEvents) absorbed0
+    ∷ same-pairs (absorbed sampleRun sampleStart 1 sampleEvents) absorbed1
+    ∷ same-pairs (absorbed sampleRun sampleStart 2 sampleEvents) absorbed2
     -- the lengths held are the largest of them, and 0 for an id that none absorbed
     ∷ isLargest 0 7 ∷ isLargest 1 7 ∷ isLargest 2 7 ∷ isLargest 0 8 ∷ isLargest 1 8 ∷ isLargest 2 8
     ∷ eqb (largest absorbed0 7) 2 ∷ eqb (largest absorbed1 7) 3 ∷ eqb (largest absorbed2 7) 4 ∷ eqb (largest absorbed2 8) 0
     -- the offered ids of each site, and how many different ones they are
-    ∷ same (offered sampleRun sampleStart 0 sampleSteps) offered0
-    ∷ same (offered sampleRun sampleStart 1 sampleSteps) offered1
-    ∷ same (offered sampleRun sampleStart 2 sampleSteps) offered2
+    ∷ same (offered sampleRun sampleStart 0 sampleEvents) offered0
+    ∷ same (offered sampleRun sampleStart 1 sampleEvents) offered1
+    ∷ same (offered sampleRun sampleStart 2 sampleEvents) offered2
     ∷ eqb (distinct offered0) 1 ∷ eqb (distinct offered1) 1 ∷ eqb (distinct offered2) 1
     -- line=13 refused=5, and no other step is refused
-    ∷ same (refusals sampleRun sampleStart sampleSteps) (0 ∷ 0 ∷ 0 ∷ 0 ∷ 0 ∷ 0 ∷ 0 ∷ 0 ∷ 0 ∷ 0 ∷ 0 ∷ 0 ∷ 5 ∷ 0 ∷ 0 ∷ 0 ∷ 0 ∷ [])
+    ∷ same (refusals sampleRun sampleStart sampleEvents) (0 ∷ 0 ∷ 0 ∷ 0 ∷ 0 ∷ 0 ∷ 0 ∷ 0 ∷ 0 ∷ 0 ∷ 0 ∷ 0 ∷ 5 ∷ 0 ∷ 0 ∷ 0 ∷ 0 ∷ [])
     -- line=16 length=3 present=1, line=17 length=4 present=0, and the other results before them
-    ∷ same (values sampleRun sampleStart sampleSteps) (1 ∷ 1 ∷ 0 ∷ 1 ∷ 2 ∷ 2 ∷ 2 ∷ 3 ∷ 0 ∷ 1 ∷ 3 ∷ 0 ∷ 0 ∷ 1 ∷ 4 ∷ 3 ∷ 4 ∷ [])
+    ∷ same (values sampleRun sampleStart sampleEvents) (1 ∷ 1 ∷ 0 ∷ 1 ∷ 2 ∷ 2 ∷ 2 ∷ 3 ∷ 0 ∷ 1 ∷ 3 ∷ 0 ∷ 0 ∷ 1 ∷ 4 ∷ 3 ∷ 4 ∷ [])
     ∷ listed 3 ∷ not (listed 4)
     -- sent=2 copied=1 absorbed=2 lost=1 waiting=0, each the number of accepted steps of its kind
     ∷ same-counts (sampleEnd .ledger .counts) (counts-of 2 1 2 1) ∷ eqb (waiting (sampleEnd .slots)) 0
@@ -132,7 +136,7 @@ sampleCases =
 
 -- document 01's sample run is what the definitions make of its steps: refusals, values, counters, tables, what is absorbed and what is offered
 pub sample-holds : all sampleCases ≡ true
-unfolding sampleCases refusals values listed afterAdd afterRemove unused soundFrom lengthOf held push withLength raised heldWith merged newIds rises raiseRefusal raiseTable removeRefusal removeTable mergeRefusal mergeTable isFree isOccupied slotsSound waiting lowestFree cleared countsSound oneMore raisedIf tableAt withTable sizesRight tablesSound allSound slotOf numbers firstGiven refusalIn effect refusalOf valueOf after freshRefusal afterFresh linkOf linkBetween pairSound overRow overRows linksSound linksBegun movesOn heardPair incomparable nextSerial isNewer ahead isOrdered ran acceptedOf entriesOf siteIn absorbedIn absorbed largest occurs within idsOf offeredIn offered among distinct
+unfolding sampleCases refusals values listed afterAdd afterRemove unused soundFrom lengthOf held push withLength raised heldWith merged newIds rises raiseRefusal raiseTable removeRefusal removeTable mergeRefusal mergeTable isFree isOccupied slotsSound waiting lowestFree cleared countsSound oneMore raisedIf tableAt withTable sizesRight tablesSound allSound slotOf numbers firstGiven refusalIn effect refusalOf valueOf outcome refusalFor afterEvent freshRefusal afterFresh linkOf linkBetween pairSound overRow overRows linksSound linksBegun movesOn heardPair incomparable nextSerial isNewer ahead isOrdered ran acceptedOf entriesOf siteIn absorbedIn absorbed largest occurs within idsOf offeredIn offered among distinct
 sample-holds = refl
 
 -- ---- "two sites in one run that absorbed the same set of id and length pairs, in whichever order and however often": such a run
@@ -143,8 +147,8 @@ abbrev pub pairStart : State
 pairStart = afterFresh pairRun 0 (lent (replicate 8 0) (replicate 1 noParcel) (ledger-of 0 0 0 0))
 
 -- site 0 publishes and withdraws 7; site 1 gets the withdrawal by a merge and the publishing after it, by a late parcel
-abbrev pub pairSteps : List Step
-pairSteps = Add 0 7 ∷ Send 0 1 7 ∷ Remove 0 7 ∷ Add 1 9 ∷ Merge 0 1 ∷ Deliver 0 ∷ Merge 1 0 ∷ []
+abbrev pub pairSteps : List Event
+pairSteps = taken (Add 0 7 ∷ Send 0 1 7 ∷ Remove 0 7 ∷ Add 1 9 ∷ Merge 0 1 ∷ Deliver 0 ∷ Merge 1 0 ∷ [])
 
 abbrev pub pairAbsorbed : ℕ → List Entry
 pairAbsorbed k = absorbed pairRun pairStart k pairSteps
@@ -166,7 +170,7 @@ pairCases =
 
 -- the two sites absorb these pairs, in another order and not as often, and hold the same table
 pub pairs-hold : all pairCases ≡ true
-unfolding pairCases refusals values listed afterAdd afterRemove unused soundFrom lengthOf held push withLength raised heldWith merged newIds rises raiseRefusal raiseTable removeRefusal removeTable mergeRefusal mergeTable isFree isOccupied slotsSound waiting lowestFree cleared countsSound oneMore raisedIf tableAt withTable sizesRight tablesSound allSound slotOf numbers firstGiven refusalIn effect refusalOf valueOf after freshRefusal afterFresh linkOf linkBetween pairSound overRow overRows linksSound linksBegun movesOn heardPair incomparable nextSerial isNewer ahead isOrdered ran acceptedOf entriesOf siteIn absorbedIn absorbed largest occurs within idsOf offeredIn offered among distinct
+unfolding pairCases refusals values listed afterAdd afterRemove unused soundFrom lengthOf held push withLength raised heldWith merged newIds rises raiseRefusal raiseTable removeRefusal removeTable mergeRefusal mergeTable isFree isOccupied slotsSound waiting lowestFree cleared countsSound oneMore raisedIf tableAt withTable sizesRight tablesSound allSound slotOf numbers firstGiven refusalIn effect refusalOf valueOf outcome refusalFor afterEvent freshRefusal afterFresh linkOf linkBetween pairSound overRow overRows linksSound linksBegun movesOn heardPair incomparable nextSerial isNewer ahead isOrdered ran acceptedOf entriesOf siteIn absorbedIn absorbed largest occurs within idsOf offeredIn offered among distinct
 pairs-hold = refl
 
 -- a test that two lists of words are the same tells that they are

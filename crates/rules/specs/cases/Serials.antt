@@ -13,7 +13,6 @@ use Rattle.rules.specs.declared.Run.{Run}
 use Rattle.rules.specs.declared.Parcel.{Parcel}
 use Rattle.rules.specs.declared.Pair.{Pair}
 use Rattle.rules.specs.declared.Lag.{Lag}
-use Rattle.rules.specs.declared.Step.{Step}
 use Rattle.rules.specs.declared.Step.the-variants.{Add, Remove, Query, Send, Deliver, Again}
 use Rattle.rules.specs.meaning.Lengths.{M, listed, afterAdd, afterRemove}
 use Rattle.rules.specs.meaning.Table.{unused, soundFrom, lengthOf, held, push, withLength, raised, heldWith}
@@ -28,8 +27,9 @@ use Rattle.rules.specs.meaning.States.{State, lent, tableAt, withTable, 
 use Rattle.rules.specs.meaning.Steps.{effect}
 use Rattle.rules.specs.meaning.Runs.{refusalIn, refusalOf, valueOf, after, freshRefusal, afterFresh}
 use Rattle.rules.specs.meaning.Lags.{silent, lagUndefined, lagIn, lagAnswer}
+use Rattle.rules.specs.meaning.Events.{Event, outcome, refusalFor, afterEvent}
 use Rattle.rules.specs.meaning.Histories.{ran, acceptedOf, pairIn, isSendOn, sentOn, serialsFrom}
-use Rattle.rules.specs.cases.Marked.{all, same, two-sites, counts-of, pair, noise, entries, ledger-with, ledger-of, waiting-for-1, same-pair, same-slots, step-refused, step-taken}
+use Rattle.rules.specs.cases.Marked.{all, same, taken, two-sites, counts-of, pair, noise, entries, ledger-with, ledger-of, waiting-for-1, same-pair, same-slots, step-refused, step-taken}
 use Rattle.rules.specs.laws.run.Reads.{SameLinks}
 use Rattle.rules.specs.laws.history.Links.{next-is-counted}
 use Rattle.rules.specs.cases.Sample.{refusals}
@@ -60,18 +60,18 @@ sent n serial = record { site = 1; id = 7; length = n; sender = 0; serial = seri
 
 -- 7 is sent as published and as withdrawn, the second parcel is doubled, and no slot is left; a send of an id that is not held, and one without a slot, use no
 -- serial
-abbrev goes-out : List Step
-goes-out = Add 0 7 ∷ Send 0 1 7 ∷ Send 0 1 9 ∷ Remove 0 7 ∷ Send 0 1 7 ∷ Again 1 ∷ Send 0 1 7 ∷ []
+abbrev goes-out : List Event
+goes-out = taken (Add 0 7 ∷ Send 0 1 7 ∷ Send 0 1 9 ∷ Remove 0 7 ∷ Send 0 1 7 ∷ Again 1 ∷ Send 0 1 7 ∷ [])
 
 abbrev out : State
 out = ran run begun goes-out
 
 -- the first parcel arrives first, or the second does, and then its copy and the first
 abbrev in-turn : State
-in-turn = ran run out (Deliver 0 ∷ [])
+in-turn = ran run out (taken (Deliver 0 ∷ []))
 
 abbrev newest-first : State
-newest-first = ran run out (Deliver 1 ∷ Deliver 2 ∷ Deliver 0 ∷ [])
+newest-first = ran run out (taken (Deliver 1 ∷ Deliver 2 ∷ Deliver 0 ∷ []))
 
 unfoldable pub serialCases : List Bool
 serialCases =
@@ -101,7 +101,7 @@ serialCases =
     ∷ []
 
 pub serials-hold : all serialCases ≡ true
-unfolding serialCases refusals ran acceptedOf sentOn serialsFrom listed afterAdd afterRemove unused soundFrom lengthOf held push withLength raised heldWith raiseRefusal raiseTable removeRefusal removeTable isFree isOccupied slotsSound waiting lowestFree cleared countsSound oneMore raisedIf tableAt withTable sizesRight tablesSound allSound slotOf linkOf numbers firstGiven refusalIn effect refusalOf valueOf after freshRefusal afterFresh nextSerial isNewer ahead isOrdered linkBetween pairSound overRow overRows linksSound linksBegun movesOn heardPair incomparable
+unfolding serialCases refusals ran acceptedOf sentOn serialsFrom listed afterAdd afterRemove unused soundFrom lengthOf held push withLength raised heldWith raiseRefusal raiseTable removeRefusal removeTable isFree isOccupied slotsSound waiting lowestFree cleared countsSound oneMore raisedIf tableAt withTable sizesRight tablesSound allSound slotOf linkOf numbers firstGiven refusalIn effect refusalOf valueOf after outcome refusalFor afterEvent freshRefusal afterFresh nextSerial isNewer ahead isOrdered linkBetween pairSound overRow overRows linksSound linksBegun movesOn heardPair incomparable
 serials-hold = refl
 
 -- ---- the lag, of site 0 to site 1 unless another link is named
@@ -130,7 +130,7 @@ pub record LagCases : Type 0 where
   pub unordered : lag (pair 2147483649 0 0 0) ≡ refused 15
 
 pub lag-cases : LagCases
-unfolding lagAnswer lagIn silent lagUndefined lagOf serialBefore ran listed afterAdd afterRemove unused soundFrom lengthOf held push withLength raised heldWith raiseRefusal raiseTable removeRefusal removeTable isFree isOccupied slotsSound waiting lowestFree cleared countsSound oneMore raisedIf tableAt withTable sizesRight tablesSound allSound slotOf linkOf numbers firstGiven refusalIn effect refusalOf valueOf after freshRefusal afterFresh nextSerial isNewer ahead isOrdered linkBetween pairSound overRow overRows linksSound linksBegun movesOn heardPair incomparable
+unfolding lagAnswer lagIn silent lagUndefined lagOf serialBefore ran listed afterAdd afterRemove unused soundFrom lengthOf held push withLength raised heldWith raiseRefusal raiseTable removeRefusal removeTable isFree isOccupied slotsSound waiting lowestFree cleared countsSound oneMore raisedIf tableAt withTable sizesRight tablesSound allSound slotOf linkOf numbers firstGiven refusalIn effect refusalOf valueOf after outcome refusalFor afterEvent freshRefusal afterFresh nextSerial isNewer ahead isOrdered linkBetween pairSound overRow overRows linksSound linksBegun movesOn heardPair incomparable
 lag-cases = record {
   behind = refl;
   in-step = refl;

@@ -8,6 +8,7 @@ use Rattle.rules.specs.declared.Answer.{Answer}
 use Rattle.rules.specs.declared.Run.{Run}
 use Rattle.rules.specs.declared.Step.{Step}
 use Rattle.rules.specs.declared.Reported.{Reported}
+use Rattle.rules.specs.declared.Grouped.{Grouped}
 use Rattle.rules.specs.meaning.States.{State}
 use Rattle.rules.specs.meaning.Runs.{Stepped, Freshened}
 use Rattle.rules.specs.meaning.Calls.{Called}
@@ -16,6 +17,8 @@ use Rattle.rules.specs.meaning.Bursts.{Handled}
 use Rattle.rules.specs.meaning.Members.{Answered}
 use Rattle.rules.specs.meaning.Writing.{Filled}
 use Rattle.rules.specs.meaning.Reports.{Told, Printed}
+use Rattle.rules.specs.meaning.Groups.{Written, Entered}
+use Rattle.rules.specs.meaning.Events.{Event, Happened}
 
 -- "two results which both satisfy it are equal", for every contract that names its result
 pub one-result : {A : Type 0} {result r r′ : A} → r ≡ result → r′ ≡ result → r ≡ r′
@@ -70,3 +73,20 @@ told-determined input before {r} {r′} a b =
 -- and so does that of what the program prints
 pub printed-determined : (input before : List ℕ) {n n′ : ℕ} {now now′ : List ℕ} → Printed input before n now → Printed input before n′ now′ → (n ≡ n′) × (now ≡ now′)
 printed-determined input before p q = one-outcome (p .count, p .bytes) (q .count, q .bytes)
+
+-- the contract of an operation that is no step leaves one answer and one state
+pub happened-determined : (run : Run) (before : State) (event : Event) {r r′ : Answer} {left left′ : State}
+    → Happened run before event r left → Happened run before event r′ left′ → (r ≡ r′) × (left ≡ left′)
+happened-determined run before event p q = one-outcome (p .answer, p .state) (q .answer, q .state)
+
+-- the contracts of the writer and the reader of groups leave one answer, and one buffer or one list of words
+same-grouped : (r r′ : Grouped) → r .refusal ≡ r′ .refusal → r .count ≡ r′ .count → r ≡ r′
+same-grouped r r′ p q = ap (λ (k : ℕ). record { refusal = k; count = r .count }) p ∙ ap (λ (k : ℕ). record { refusal = r′ .refusal; count = k }) q
+
+pub written-determined : (es before : List ℕ) {r r′ : Grouped} {now now′ : List ℕ} → Written es before r now → Written es before r′ now′ → (r ≡ r′) × (now ≡ now′)
+written-determined es before {r} {r′} a b =
+    (same-grouped r r′ (one-result (a .refusal) (b .refusal)) (one-result (a .count) (b .count)), one-result (a .bytes) (b .bytes))
+
+pub entered-determined : (bs before : List ℕ) {r r′ : Grouped} {now now′ : List ℕ} → Entered bs before r now → Entered bs before r′ now′ → (r ≡ r′) × (now ≡ now′)
+entered-determined bs before {r} {r′} a b =
+    (same-grouped r r′ (one-result (a .refusal) (b .refusal)) (one-result (a .count) (b .count)), one-result (a .words) (b .words))

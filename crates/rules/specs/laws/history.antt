@@ -1,4 +1,4 @@
--- What a list of steps makes of a run: demands 2 and 3.
+-- What a list of events makes of a run: demands 2 and 3.
 pub mod Figure4
 pub mod Rising
 pub mod Counting
@@ -10,3 +10,4 @@ pub mod Climbing
 pub mod Held
 pub mod Offering
 pub mod Room
+pub mod Groups

@@ -12,4 +12,6 @@ pub mod Reads
 pub mod Lags
 pub mod Sound
 pub mod Acts
+pub mod Events
+pub mod Happens
 pub mod Bursts

@@ -1,4 +1,4 @@
--- The links of a run, over a list of steps: the next serial is the first one and one more for each accepted send, wrapped; what went out are the serials
+-- The links of a run, over a list of events: the next serial is the first one and one more for each accepted send, wrapped; what went out are the serials
 -- from the first on; and the newest heard is one of them.
 -- Assumes nothing.
 use Prim.Native.Nat.{ℕ, zero, suc, _+_, _%_, _<_, _≤_}
@@ -13,19 +13,21 @@ use borrow.Author.Tests.{eq-eqb, ne-eqb, ltb-true, eqb-true, eqb-false}
 use Rattle.rules.specs.declared.Run.{Run}
 use Rattle.rules.specs.declared.Parcel.{Parcel}
 use Rattle.rules.specs.declared.Pair.{Pair}
+use Rattle.rules.specs.declared.Ledger.{Ledger}
 use Rattle.rules.specs.declared.Step.{Step}
 use Rattle.rules.specs.meaning.Serials.{serials, largestSerial, nextSerial}
 use Rattle.rules.specs.meaning.Parcels.{noParcel}
 use Rattle.rules.specs.meaning.Links.{place, noLink, noPair, linked, linkBetween, stands, startPair, sentPair, movesOn, heardPair}
 use Rattle.rules.specs.meaning.Kinds.{numbers, isSend, isAgain, isDeliver, slotOf, linkOf}
-use Rattle.rules.specs.meaning.States.{State, parcelAt}
-use Rattle.rules.specs.meaning.Runs.{refusalOf, moved, stateBy, after, freshRefusal, afterFresh, effectOf}
-use Rattle.rules.specs.meaning.Histories.{ran, isAccepted, acceptedOf, among, pairIn, isSendOn, sentOn, serialsFrom}
+use Rattle.rules.specs.meaning.States.{State, lent, parcelAt}
+use Rattle.rules.specs.meaning.Runs.{moved, freshRefusal, afterFresh, effectOf}
+use Rattle.rules.specs.meaning.Events.{Event, takes, stepIn, afterEvent}
+use Rattle.rules.specs.meaning.Histories.{ran, isAccepted, isOf, acceptedOf, among, pairIn, isSendOn, serialPut, sentOn, serialsFrom}
 use Rattle.rules.specs.laws.table.View.{parts}
-use Rattle.rules.specs.laws.run.Steps.{after-keeps}
 use Rattle.rules.specs.laws.run.Links.{link-of, place-one, begun-link, begun-length}
 use Rattle.rules.specs.laws.run.Owed.{named, linkPair, pairAfter, parcelAfter}
 use Rattle.rules.specs.laws.run.Rows.{owed}
+use Rattle.rules.specs.laws.run.Happens.{by-acceptance, by-event}
 use Rattle.rules.specs.laws.history.Distinct.{among-left, among-right}
 use Rattle.rules.specs.laws.history.Climbing.{among-same}
 use Rattle.rules.specs.laws.run.Tables.{few-sites}
@@ -65,20 +67,10 @@ set-read P (x ∷ xs) zero (suc i) p new old = old
 set-read P (x ∷ xs) (suc j) zero p new old = old
 set-read P (x ∷ xs) (suc j) (suc i) p new old = set-read P xs j i p new old
 
--- an accepted step makes one state, and a refused one leaves the other
-by-acceptance : (run : Run) (s : State) (step : Step) (P : Bool → State → Type 0) → (refusalOf run s step ≡ 0 → P true (moved run s step)) → P false s
-    → P (isAccepted run s step) (after run s step)
-unfolding after
-by-acceptance run s step P took left = go (refusalOf run s step) refl
-  where
-    go : (r : ℕ) → refusalOf run s step ≡ r → P (eqb r 0) (stateBy r s (moved run s step))
-    go zero e = took e
-    go (suc r) e = subst (λ (t : Bool). P t s) (sym (ne-eqb (suc r) 0 (omega arith))) left
-
 -- the ledger keeps its number of entries
-pub entries-stay : (run : Run) (s : State) (step : Step) → length (after run s step .ledger .pairs) ≡ length (s .ledger .pairs)
-entries-stay run s step = after-keeps run s step (λ u. length (u .ledger .pairs) ≡ length (s .ledger .pairs)) refl
-    (λ a. length-set (s .ledger .pairs) (effectOf run s step .post .link) (effectOf run s step .post .pair))
+pub entries-stay : (run : Run) (s : State) (event : Event) → length (afterEvent run s event .ledger .pairs) ≡ length (s .ledger .pairs)
+entries-stay run s = by-event run s isSend (λ t n ss l. length (l .pairs) ≡ length (s .ledger .pairs))
+    (λ step. by-acceptance run s step (λ t u. length (u .ledger .pairs) ≡ length (s .ledger .pairs)) (λ a. length-set (s .ledger .pairs) (effectOf run s step .post .link) (effectOf run s step .post .pair)) refl) refl
 
 -- ---- one link of a run
 module _ (run : Run) (few : run .sites ≤ 16) (a b : ℕ) (la : a < run .sites) (lb : b < run .sites) (d : a ≡ b → ⊥) where
@@ -141,10 +133,10 @@ module _ (run : Run) (few : run .sites ≤ 16) (a b : ℕ) (la : a < run .sites)
     -- ---- one step
     -- whether the step is an accepted send on the link
     abbrev goes : Bool
-    goes = isAccepted run s step && isSendOn a b step
+    goes = isAccepted run s (takes step) && isSendOn a b step
 
     -- the next serial is moved on exactly then, and it is the one that goes out
-    step-next : pairIn (after run s step) a b .next ≡ cond goes (nextSerial (pairIn s a b .next)) (pairIn s a b .next)
+    step-next : pairIn (afterEvent run s (takes step)) a b .next ≡ cond goes (nextSerial (pairIn s a b .next)) (pairIn s a b .next)
     step-next = by-acceptance run s step (λ t u. pairIn u a b .next ≡ cond (t && isSendOn a b step) (nextSerial (pairIn s a b .next)) (pairIn s a b .next)) (λ _. go touched) refl
       where
         go : Touch s step → pairIn (moved run s step) a b .next ≡ cond (isSendOn a b step) (nextSerial (pairIn s a b .next)) (pairIn s a b .next)
@@ -156,7 +148,7 @@ module _ (run : Run) (few : run .sites ≤ 16) (a b : ℕ) (la : a < run .sites)
     step-serial h = go touched
       where
         off : isSendOn a b step ≡ false → effectOf run s step .post .parcel .serial ≡ pairIn s a b .next
-        off e = absurd (false≢true (sym e ∙ parts (isAccepted run s step) _ h .1))
+        off e = absurd (false≢true (sym e ∙ parts (isAccepted run s (takes step)) _ h .1))
 
         go : Touch s step → effectOf run s step .post .parcel .serial ≡ pairIn s a b .next
         go (sends on e n) = n
@@ -164,7 +156,7 @@ module _ (run : Run) (few : run .sites ≤ 16) (a b : ℕ) (la : a < run .sites)
         go (leaves e _) = off e
 
     -- and so is the mark of nothing sent cleared
-    step-unsent : pairIn (after run s step) a b .unsent ≡ cond goes 0 (pairIn s a b .unsent)
+    step-unsent : pairIn (afterEvent run s (takes step)) a b .unsent ≡ cond goes 0 (pairIn s a b .unsent)
     step-unsent = by-acceptance run s step (λ t u. pairIn u a b .unsent ≡ cond (t && isSendOn a b step) 0 (pairIn s a b .unsent)) (λ _. go touched) refl
       where
         go : Touch s step → pairIn (moved run s step) a b .unsent ≡ cond (isSendOn a b step) 0 (pairIn s a b .unsent)
@@ -172,44 +164,62 @@ module _ (run : Run) (few : run .sites ≤ 16) (a b : ℕ) (la : a < run .sites)
         go (hears off _ _ e) = rw (off, e) (heard-next (named s step .serial) (pairIn s a b) .1)
         go (leaves off e) = rw (off, e)
 
-  -- ---- a list of steps
-  ran-next : (s : State) → length (s .ledger .pairs) ≡ 256 → (steps : List Step) → pairIn s a b .next ≤ largestSerial
-      → pairIn (ran run s steps) a b .next ≡ (pairIn s a b .next + acceptedOf (isSendOn a b) run s steps) % serials
+  -- ---- one event
+  module _ (s : State) (whole : length (s .ledger .pairs) ≡ 256) (event : Event) where
+    -- whether it is an accepted send on the link
+    abbrev goes-out : Bool
+    goes-out = isAccepted run s event && isOf (isSendOn a b) (stepIn event)
+
+    abbrev entry : Ledger → Pair
+    entry l = getD (l .pairs) (place a b) noPair
+
+    event-next : pairIn (afterEvent run s event) a b .next ≡ cond goes-out (nextSerial (pairIn s a b .next)) (pairIn s a b .next)
+    event-next = by-event run s (isSendOn a b) (λ t n ss l. entry l .next ≡ cond t (nextSerial (pairIn s a b .next)) (pairIn s a b .next)) (λ step. step-next s whole step) refl event
+
+    event-serial : goes-out ≡ true → serialPut run s (stepIn event) ≡ pairIn s a b .next
+    event-serial = by-event run s (isSendOn a b) (λ t n ss l. t ≡ true → n ≡ pairIn s a b .next) (λ step. step-serial s whole step) (λ h. absurd (false≢true h)) event
+
+    event-unsent : pairIn (afterEvent run s event) a b .unsent ≡ cond goes-out 0 (pairIn s a b .unsent)
+    event-unsent = by-event run s (isSendOn a b) (λ t n ss l. entry l .unsent ≡ cond t 0 (pairIn s a b .unsent)) (λ step. step-unsent s whole step) refl event
+
+  -- ---- a list of events
+  ran-next : (s : State) → length (s .ledger .pairs) ≡ 256 → (events : List Event) → pairIn s a b .next ≤ largestSerial
+      → pairIn (ran run s events) a b .next ≡ (pairIn s a b .next + acceptedOf (isSendOn a b) run s events) % serials
   unfolding ran acceptedOf nextSerial
   ran-next s whole [] fits = omega (arith, fits)
-  ran-next s whole (step ∷ steps) fits = go (goes s whole step) (step-next s whole step) (ran-next (after run s step) (entries-stay run s step ∙ whole) steps)
+  ran-next s whole (event ∷ events) fits = go (goes-out s whole event) (event-next s whole event) (ran-next (afterEvent run s event) (entries-stay run s event ∙ whole) events)
     where
-      go : (t : Bool) → pairIn (after run s step) a b .next ≡ cond t ((pairIn s a b .next + 1) % 4294967296) (pairIn s a b .next)
-          → (pairIn (after run s step) a b .next ≤ largestSerial
-          → pairIn (ran run (after run s step) steps) a b .next ≡ (pairIn (after run s step) a b .next + acceptedOf (isSendOn a b) run (after run s step) steps) % serials)
-          → pairIn (ran run (after run s step) steps) a b .next ≡ (pairIn s a b .next + (cond t 1 0 + acceptedOf (isSendOn a b) run (after run s step) steps)) % serials
+      go : (t : Bool) → pairIn (afterEvent run s event) a b .next ≡ cond t ((pairIn s a b .next + 1) % 4294967296) (pairIn s a b .next)
+          → (pairIn (afterEvent run s event) a b .next ≤ largestSerial
+          → pairIn (ran run (afterEvent run s event) events) a b .next ≡ (pairIn (afterEvent run s event) a b .next + acceptedOf (isSendOn a b) run (afterEvent run s event) events) % serials)
+          → pairIn (ran run (afterEvent run s event) events) a b .next ≡ (pairIn s a b .next + (cond t 1 0 + acceptedOf (isSendOn a b) run (afterEvent run s event) events)) % serials
       go true e ih = let r = ih (omega (arith, e)) in omega (arith, e, r)
       go false e ih = let r = ih (omega (arith, e, fits)) in omega (arith, e, r)
 
-  ran-sent : (s : State) → length (s .ledger .pairs) ≡ 256 → (steps : List Step) → sentOn run s a b steps ≡ serialsFrom (pairIn s a b .next) (acceptedOf (isSendOn a b) run s steps)
+  ran-sent : (s : State) → length (s .ledger .pairs) ≡ 256 → (events : List Event) → sentOn run s a b events ≡ serialsFrom (pairIn s a b .next) (acceptedOf (isSendOn a b) run s events)
   unfolding sentOn acceptedOf serialsFrom
   ran-sent s whole [] = refl
-  ran-sent s whole (step ∷ steps) = go (goes s whole step) refl (step-next s whole step) (ran-sent (after run s step) (entries-stay run s step ∙ whole) steps)
+  ran-sent s whole (event ∷ events) = go (goes-out s whole event) refl (event-next s whole event) (ran-sent (afterEvent run s event) (entries-stay run s event ∙ whole) events)
     where
-      go : (t : Bool) → goes s whole step ≡ t → pairIn (after run s step) a b .next ≡ cond t (nextSerial (pairIn s a b .next)) (pairIn s a b .next)
-          → sentOn run (after run s step) a b steps ≡ serialsFrom (pairIn (after run s step) a b .next) (acceptedOf (isSendOn a b) run (after run s step) steps)
-          → cond t (effectOf run s step .post .parcel .serial ∷ []) [] ++ sentOn run (after run s step) a b steps
-          ≡ serialsFrom (pairIn s a b .next) (cond t 1 0 + acceptedOf (isSendOn a b) run (after run s step) steps)
+      go : (t : Bool) → goes-out s whole event ≡ t → pairIn (afterEvent run s event) a b .next ≡ cond t (nextSerial (pairIn s a b .next)) (pairIn s a b .next)
+          → sentOn run (afterEvent run s event) a b events ≡ serialsFrom (pairIn (afterEvent run s event) a b .next) (acceptedOf (isSendOn a b) run (afterEvent run s event) events)
+          → cond t (serialPut run s (stepIn event) ∷ []) [] ++ sentOn run (afterEvent run s event) a b events
+          ≡ serialsFrom (pairIn s a b .next) (cond t 1 0 + acceptedOf (isSendOn a b) run (afterEvent run s event) events)
       go true h e ih =
-          let one : suc (acceptedOf (isSendOn a b) run (after run s step) steps) ≡ 1 + acceptedOf (isSendOn a b) run (after run s step) steps = omega arith in
-          rw (ih, e, step-serial s whole step h) (ap (serialsFrom (pairIn s a b .next)) one)
+          let one : suc (acceptedOf (isSendOn a b) run (afterEvent run s event) events) ≡ 1 + acceptedOf (isSendOn a b) run (afterEvent run s event) events = omega arith in
+          rw (ih, e, event-serial s whole event h) (ap (serialsFrom (pairIn s a b .next)) one)
       go false h e ih =
-          let none : acceptedOf (isSendOn a b) run (after run s step) steps ≡ 0 + acceptedOf (isSendOn a b) run (after run s step) steps = omega arith in
+          let none : acceptedOf (isSendOn a b) run (afterEvent run s event) events ≡ 0 + acceptedOf (isSendOn a b) run (afterEvent run s event) events = omega arith in
           rw (ih, e) (ap (serialsFrom (pairIn s a b .next)) none)
 
-  ran-unsent : (s : State) → length (s .ledger .pairs) ≡ 256 → (steps : List Step)
-      → pairIn (ran run s steps) a b .unsent ≡ cond (eqb (acceptedOf (isSendOn a b) run s steps) 0) (pairIn s a b .unsent) 0
+  ran-unsent : (s : State) → length (s .ledger .pairs) ≡ 256 → (events : List Event)
+      → pairIn (ran run s events) a b .unsent ≡ cond (eqb (acceptedOf (isSendOn a b) run s events) 0) (pairIn s a b .unsent) 0
   unfolding ran acceptedOf
   ran-unsent s whole [] = refl
-  ran-unsent s whole (step ∷ steps) = go (goes s whole step) (step-unsent s whole step) (ran-unsent (after run s step) (entries-stay run s step ∙ whole) steps)
+  ran-unsent s whole (event ∷ events) = go (goes-out s whole event) (event-unsent s whole event) (ran-unsent (afterEvent run s event) (entries-stay run s event ∙ whole) events)
     where
       rest : ℕ
-      rest = acceptedOf (isSendOn a b) run (after run s step) steps
+      rest = acceptedOf (isSendOn a b) run (afterEvent run s event) events
 
       none : 0 + rest ≡ rest
       none = omega arith
@@ -218,9 +228,9 @@ module _ (run : Run) (few : run .sites ≤ 16) (a b : ℕ) (la : a < run .sites)
       down true = refl
       down false = refl
 
-      go : (t : Bool) → pairIn (after run s step) a b .unsent ≡ cond t 0 (pairIn s a b .unsent)
-          → pairIn (ran run (after run s step) steps) a b .unsent ≡ cond (eqb rest 0) (pairIn (after run s step) a b .unsent) 0
-          → pairIn (ran run (after run s step) steps) a b .unsent ≡ cond (eqb (cond t 1 0 + rest) 0) (pairIn s a b .unsent) 0
+      go : (t : Bool) → pairIn (afterEvent run s event) a b .unsent ≡ cond t 0 (pairIn s a b .unsent)
+          → pairIn (ran run (afterEvent run s event) events) a b .unsent ≡ cond (eqb rest 0) (pairIn (afterEvent run s event) a b .unsent) 0
+          → pairIn (ran run (afterEvent run s event) events) a b .unsent ≡ cond (eqb (cond t 1 0 + rest) 0) (pairIn s a b .unsent) 0
       go true e ih = ih ∙ rw (e, ne-eqb (1 + rest) 0 (omega arith)) (down (eqb rest 0))
       go false e ih = ih ∙ rw (e, none)
 
@@ -276,17 +286,27 @@ module _ (run : Run) (few : run .sites ≤ 16) (a b : ℕ) (la : a < run .sites)
         go (hears off e f q) = rw q (hear (movesOn (named s step .serial) (pairIn s a b)) e f)
         go (leaves off e) = rw e old
 
-    step-heard : Heard (after run s step) (out (isAccepted run s step && isSendOn a b step))
+    step-heard : Heard (afterEvent run s (takes step)) (out (isAccepted run s (takes step) && isSendOn a b step))
     step-heard = by-acceptance run s step (λ t u. Heard u (out (t && isSendOn a b step))) (λ _. record {
       newest = newest-after;
       waits = λ i. set-read (Carries (out (isSendOn a b step))) (s .slots) (effectOf run s step .post .place) i (effectOf run s step .post .parcel) put-carries (more sent _ (parcelAt s i) (h .waits i));
     }) (record { newest = λ m. among-left sent [] (pairIn s a b .heard) (h .newest m); waits = λ i. more sent [] (parcelAt s i) (h .waits i) })
 
-  ran-heard : (s : State) → length (s .ledger .pairs) ≡ 256 → (steps : List Step) (sent : List ℕ) → Heard s sent → Heard (ran run s steps) (sent ++ sentOn run s a b steps)
+  -- an event, and a list of them
+  event-heard : (s : State) → length (s .ledger .pairs) ≡ 256 → (event : Event) (sent : List ℕ) → Heard s sent
+      → Heard (afterEvent run s event) (sent ++ cond (isAccepted run s event && isOf (isSendOn a b) (stepIn event)) (serialPut run s (stepIn event) ∷ []) [])
+  event-heard s whole event sent h =
+      let all : Heard (lent [] (afterEvent run s event .slots) (afterEvent run s event .ledger)) (sent ++ cond (isAccepted run s event && isOf (isSendOn a b) (stepIn event)) (serialPut run s (stepIn event) ∷ []) []) =
+      by-event run s (isSendOn a b) (λ t n ss l. Heard (lent [] ss l) (sent ++ cond t (n ∷ []) []))
+      (λ step. let k = step-heard s whole step sent h in record { newest = k .newest; waits = k .waits })
+      (record { newest = λ m. among-left sent [] (pairIn s a b .heard) (h .newest m); waits = λ i. more sent [] (parcelAt s i) (h .waits i) }) event in
+      record { newest = all .newest; waits = all .waits }
+
+  ran-heard : (s : State) → length (s .ledger .pairs) ≡ 256 → (events : List Event) (sent : List ℕ) → Heard s sent → Heard (ran run s events) (sent ++ sentOn run s a b events)
   unfolding ran sentOn
   ran-heard s whole [] sent h = rw (append-nil sent) h
-  ran-heard s whole (step ∷ steps) sent h =
-      rw (← append-assoc sent _ (sentOn run (after run s step) a b steps)) (ran-heard (after run s step) (entries-stay run s step ∙ whole) steps _ (step-heard s whole step sent h))
+  ran-heard s whole (event ∷ events) sent h =
+      rw (← append-assoc sent _ (sentOn run (afterEvent run s event) a b events)) (ran-heard (afterEvent run s event) (entries-stay run s event ∙ whole) events _ (event-heard s whole event sent h))
 
 -- ---- from fresh
 module _ (run : Run) (first : ℕ) (s : State) (fresh : freshRefusal run (length (s .words)) (length (s .slots)) ≡ 0) (fits : first ≤ largestSerial)
@@ -311,20 +331,20 @@ module _ (run : Run) (first : ℕ) (s : State) (fresh : freshRefusal run (length
   start-slots i = rw fresh (cleared-at (s .slots) i)
 
   -- "and goes up by one for each accepted send, wrapping after 4,294,967,295"
-  pub next-is-counted : (steps : List Step) → pairIn (ran run start steps) a b .next ≡ (first + acceptedOf (isSendOn a b) run start steps) % serials
-  next-is-counted steps = rw (start-pair) at (ran-next run few a b la lb d start start-whole steps (rw (start-pair) fits))
+  pub next-is-counted : (events : List Event) → pairIn (ran run start events) a b .next ≡ (first + acceptedOf (isSendOn a b) run start events) % serials
+  next-is-counted events = rw (start-pair) at (ran-next run few a b la lb d start start-whole events (rw (start-pair) fits))
 
   -- what goes out are the serials from the first on
-  pub sent-in-order : (steps : List Step) → sentOn run start a b steps ≡ serialsFrom first (acceptedOf (isSendOn a b) run start steps)
-  sent-in-order steps = rw (start-pair) at (ran-sent run few a b la lb d start start-whole steps)
+  pub sent-in-order : (events : List Event) → sentOn run start a b events ≡ serialsFrom first (acceptedOf (isSendOn a b) run start events)
+  sent-in-order events = rw (start-pair) at (ran-sent run few a b la lb d start start-whole events)
 
   -- the mark of nothing sent stands until the first of them
-  pub unsent-until-sent : (steps : List Step) → pairIn (ran run start steps) a b .unsent ≡ cond (eqb (acceptedOf (isSendOn a b) run start steps) 0) 1 0
-  unsent-until-sent steps = rw (start-pair) at (ran-unsent run few a b la lb d start start-whole steps)
+  pub unsent-until-sent : (events : List Event) → pairIn (ran run start events) a b .unsent ≡ cond (eqb (acceptedOf (isSendOn a b) run start events) 0) 1 0
+  unsent-until-sent events = rw (start-pair) at (ran-unsent run few a b la lb d start start-whole events)
 
   -- the newest heard, once something was heard, went out on this link in this run
-  pub heard-was-sent : (steps : List Step) → stands (pairIn (ran run start steps) a b .unheard) ≡ false → among (pairIn (ran run start steps) a b .heard) (sentOn run start a b steps) ≡ true
-  heard-was-sent steps = ran-heard run few a b la lb d start start-whole steps [] (record { newest = λ m. absurd (marked m); waits = λ i. rw (start-slots i) (no-parcel run few a b la lb d []) }) .newest
+  pub heard-was-sent : (events : List Event) → stands (pairIn (ran run start events) a b .unheard) ≡ false → among (pairIn (ran run start events) a b .heard) (sentOn run start a b events) ≡ true
+  heard-was-sent events = ran-heard run few a b la lb d start start-whole events [] (record { newest = λ m. absurd (marked m); waits = λ i. rw (start-slots i) (no-parcel run few a b la lb d []) }) .newest
     where
       marked : stands (pairIn start a b .unheard) ≡ false → ⊥
       marked m = false≢true (sym (rw (start-pair) at m))

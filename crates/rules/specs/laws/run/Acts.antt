@@ -4,6 +4,7 @@ use Prim.Native.Nat.{ℕ, zero, suc, _≤_}
 use native.Mathlib.Omega.{arith}
 use mathlib.Core.Path.{_≡_, refl, ap}
 use mathlib.Core.Bool.{Bool, true, false, cond}
+use mathlib.Core.List.{List, [], _++_}
 use lib.ListN.{length}
 use borrow.Author.Tests.{ne-eqb, not-false}
 use Rattle.rules.specs.declared.Answer.{Answer}
@@ -16,28 +17,39 @@ use Rattle.rules.specs.meaning.Links.{noLink}
 use Rattle.rules.specs.meaning.Ledgers.{countsSound}
 use Rattle.rules.specs.laws.run.Slots.{set-lowest}
 use Rattle.rules.specs.laws.table.View.{parts}
-use Rattle.rules.specs.meaning.Refusals.{firstGiven}
+use Rattle.rules.specs.meaning.Refusals.{Test, firstGiven}
 use Rattle.rules.specs.meaning.States.{State, width, sizesRight, tablesSound, allSound, StateSound, sightWith}
-use Rattle.rules.specs.meaning.Runs.{refusalIn, refusalOf, valueOf, stateBy, moved, after, effectOf}
+use Rattle.rules.specs.meaning.Runs.{judgeTests, refusalIn, refusalOf, valueOf, stateBy, moved, after, effectOf}
 use Rattle.rules.specs.laws.run.Steps.{pass}
 use Rattle.rules.specs.meaning.Acts.{judgedOf, Clear, answerUnder, afterUnder, Acted, lowTaken, lowAfter}
 use Rattle.rules.specs.laws.run.Rows.{owed}
 
 -- ---- the judge
--- a state that is let through is sound, and a sound one is let through
-pub judged-sound : (run : Run) (s : State) → judgedOf run s ≡ 0 → StateSound run s
-unfolding judgedOf allSound
-judged-sound run s h =
-    let a = pass 0 _ _ h in
-    let b = pass 1 _ _ (a .1) in
-    let c = parts (tablesSound M (width run) (run .sites) (s .words)) _ (not-false _ (b .0)) in
-    let d = parts (slotsSound M (run .sites) (s .slots)) _ (c .1) in
-    let e = parts (countsSound M (waiting (s .slots)) (s .ledger .counts)) _ (d .1) in
-    (not-false _ (a .0), c .0, d .0, e .0, e .1)
+module _ (run : Run) (s : State) where
+  -- where its two tests stand before others and none is given, the state is sound, and none of the others is given
+  pub judged-before : (ts : List Test) → firstGiven (judgeTests run (s .words) (sightWith noParcel noLink run s) ++ ts) ≡ 0 → StateSound run s × (firstGiven ts ≡ 0)
+  unfolding allSound
+  judged-before ts h =
+      let a = pass 0 _ _ h in
+      let b = pass 1 _ _ (a .1) in
+      let c = parts (tablesSound M (width run) (run .sites) (s .words)) _ (not-false _ (b .0)) in
+      let d = parts (slotsSound M (run .sites) (s .slots)) _ (c .1) in
+      let e = parts (countsSound M (waiting (s .slots)) (s .ledger .counts)) _ (d .1) in
+      ((not-false _ (a .0), c .0, d .0, e .0, e .1), b .1)
 
-pub sound-passes : (run : Run) (s : State) → StateSound run s → judgedOf run s ≡ 0
-unfolding judgedOf allSound firstGiven
-sound-passes run s h = rw (h .0, h .1, h .2, h .3, h .4)
+  -- in a sound state only the others can be given
+  pub sound-before : (ts : List Test) → StateSound run s → firstGiven (judgeTests run (s .words) (sightWith noParcel noLink run s) ++ ts) ≡ firstGiven ts
+  unfolding allSound firstGiven
+  sound-before ts h = rw (h .0, h .1, h .2, h .3, h .4)
+
+  -- a state that is let through is sound, and a sound one is let through
+  pub judged-sound : judgedOf run s ≡ 0 → StateSound run s
+  unfolding judgedOf
+  judged-sound h = judged-before [] h .0
+
+  pub sound-passes : StateSound run s → judgedOf run s ≡ 0
+  unfolding judgedOf firstGiven
+  sound-passes h = sound-before [] h
 
 -- so what it lets through may be handed to the inner step
 pub judged-clear : (run : Run) (s : State) (low : ℕ) → low ≤ lowestFree (s .slots) → Clear (judgedOf run s) low run s

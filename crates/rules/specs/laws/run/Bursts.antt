@@ -12,7 +12,8 @@ use Rattle.rules.specs.declared.Named.the-variants.{Is, NoStep}
 use Rattle.rules.specs.meaning.Operations.{unlessRefused}
 use Rattle.rules.specs.meaning.Put.{put}
 use Rattle.rules.specs.meaning.States.{State, StateSound}
-use Rattle.rules.specs.meaning.Runs.{stateBy}
+use Rattle.rules.specs.meaning.Runs.{stateBy, after}
+use Rattle.rules.specs.meaning.Events.{outcome, refusalFor, afterEvent}
 use Rattle.rules.specs.laws.run.Sound.{after-sound}
 use Rattle.rules.specs.meaning.Histories.{ran}
 use Rattle.rules.specs.meaning.Calls.{namedAnswer, namedAfter}
@@ -21,7 +22,7 @@ use Rattle.rules.specs.meaning.Bursts.{asksOf, stepsIn, answersTo, Handl
 -- ---- one ask
 -- an ask in front: the state after it is where the others begin
 pub ran-ask : (run : Run) (s : State) (ask : Named) (asks : List Named) → ran run s (stepsIn (ask ∷ asks)) ≡ ran run (namedAfter run s ask) (stepsIn asks)
-unfolding ran stepsIn namedAfter
+unfolding ran stepsIn namedAfter afterEvent refusalFor outcome after
 ran-ask run s (Is step) asks = refl
 ran-ask run s NoStep asks = refl
 

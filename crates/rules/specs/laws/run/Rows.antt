@@ -45,14 +45,14 @@ use Rattle.rules.specs.laws.run.Owed.{Gains, given-numbered, numbered, C
 
 -- ---- what the rows share
 -- the test with the number is given, where no later one has it
-given-by : (k n : ℕ) (b : Bool) (ts : List Test) → (firstGiven ts ≡ k → ⊥) → firstGiven ((n when b) ∷ ts) ≡ k → b ≡ true
+pub given-by : (k n : ℕ) (b : Bool) (ts : List Test) → (firstGiven ts ≡ k → ⊥) → firstGiven ((n when b) ∷ ts) ≡ k → b ≡ true
 unfolding firstGiven
 given-by k n true ts later h = refl
 given-by k n false ts later h = absurd (later h)
 
 -- a sound table of the same length put in
 module _ (run : Run) (s : State) (so : StateSound run s) (k : ℕ) (p : k < run .sites) (t : List ℕ) (ok : sound M t ≡ true) (size : length t ≡ length (tableAt run (s .words) k)) where
-  put-in : (given : List Entry) (offer : List ℕ)
+  pub put-in : (given : List Entry) (offer : List ℕ)
       → ((e : ℕ) → lengthOf t e ≡ join (lengthOf (tableAt run (s .words) k) e) (largest given e))
       → ((x : ℕ) → 1 ≤ largest given x → among x (offer ++ idsOf (tableAt run (s .words) k)) ≡ true)
       → Gains run (s .words) k record { site = k; given = given; offer = offer; words = withTable run (s .words) k t }
@@ -122,7 +122,7 @@ module _ (run : Run) (s : State) where
   as-taken low under = (le-refl (lowestFree (s .slots)), le-refl (lowestFree (s .slots)))
 
   -- more than a table has room for is more than C
-  more : StateSound run s → (k : ℕ) → k < run .sites → (n : ℕ) → capacity (tableAt run (s .words) k) < n → run .capacity < n
+  pub more : StateSound run s → (k : ℕ) → k < run .sites → (n : ℕ) → capacity (tableAt run (s .words) k) < n → run .capacity < n
   more ok k h n p = omega (arith, site-capacity run s ok k h)
 
   own-tests : StateSound run s → (step : Step) → refusalOf run s step ≡ 8 → firstGiven (effectOf run s step .tests) ≡ 8

@@ -66,7 +66,7 @@ module _ (run : Run) (s : State) (step : Step) where
   pub sized-stays : (length (after run s step .words) ≡ length (s .words)) × (length (after run s step .slots) ≡ length (s .slots))
   sized-stays = (words-stay-long, slots-stay-long)
 
-  moved-sound : refusalOf run s step ≡ 0 → StateSound run (moved run s step)
+  pub moved-sound : refusalOf run s step ≡ 0 → StateSound run (moved run s step)
   moved-sound a =
       let so = accepted-sound run s step a in
       let kept = owed run s step .tables .gains a in
