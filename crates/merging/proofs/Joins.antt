@@ -2,7 +2,7 @@
 -- Assumes nothing.
 use Prim.Native.Nat.{ℕ, suc, _+_, _*_, _-_, _≤_, _<_, max}
 use native.Mathlib.Omega.{arith}
-use mathlib.Core.Path.{_≡_, sym, _∙_}
+use mathlib.Core.Path.{_≡_, refl, sym, _∙_}
 use mathlib.Core.Logic.{inl, inr}
 use mathlib.Core.List.{List}
 use lib.ListN.{length, getD, set}
@@ -20,6 +20,14 @@ pub record Outcome (mine kept id len x n di dj : ℕ) : Type 0 where
   pub over : id < mine → (x ≡ mine) × (n ≡ kept) × (di ≡ 1) × (dj ≡ 0)
   pub both : mine ≡ id → (x ≡ id) × (n ≡ max kept len) × (di ≡ 1) × (dj ≡ 1)
   pub under : mine < id → (x ≡ id) × (n ≡ len) × (di ≡ 0) × (dj ≡ 1)
+
+-- an entry of the table that is above the source's last moves on as it is
+pub moves-on : (mine kept mine′ kept′ id id′ len′ : ℕ) → id < mine → mine ≡ mine′ → kept ≡ kept′ → id ≡ id′ → Outcome mine′ kept′ id′ len′ mine kept 1 0
+moves-on mine kept mine′ kept′ id id′ len′ h a b c = record {
+  over = λ _. (a, b, refl, refl);
+  both = λ e. absurd (omega arith);
+  under = λ l. absurd (omega arith);
+}
 
 -- what `settle` says of its result
 pub record Settling (mine before kept id next len x n di dj m l : ℕ) : Type 0 where

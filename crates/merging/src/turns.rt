@@ -3,10 +3,13 @@ use lengths::join;
 ghost use mathlib.Core.Path.{_≡_};
 ghost use Prim.Native.Nat.{ℕ, _+_, _*_, _-_, _≤_, _<_, max};
 ghost use mathlib.Core.List.{List};
-ghost use mathlib.Core.Bool.{cond};
+ghost use mathlib.Core.Bool.{true, cond};
 ghost use lib.ListN.{length as size, getD, set};
 ghost use Rattle.rules.specs.meaning.Table.{idAt, lengthAt};
 ghost use Rattle.merging.specs.Walks.{Joining};
+
+// A source of which there is one entry to so many of the table is one of few entries.
+const FEW: usize = 8;
 
 // What is left to place: entries of the table, entries of the source, and the place from which on the merged table stands.
 pub(crate) struct Left {
@@ -61,7 +64,20 @@ pub(crate) fn put(words: &mut [u64], at: usize, id: u64, length: u64)
     words[at + 1] = length;
 }
 
-// One turn, with the last entry that is left of the source.
+// Whether few entries are left of the source, and the table's last one is above them.
+fn goes_over(own: usize, others: usize, mine: u64, id: u64) -> bool
+    ensures { λ r. ⌜ (r ≡ true → id < mine) ⌝ }
+{
+    if others <= own / FEW {
+        if id < mine {
+            return true;
+        }
+    }
+    false
+}
+
+// One turn, with the last entry that is left of the source. Where few are left of it, that an entry of the table's own moves on is a branch: nearly every turn is
+// such a one then, which is foreseen.
 pub(crate) fn turn(table: &mut [u64], left: Left, id: u64, length: u64) -> Left
     requires { ⌜ (1 ≤ left .others) × (1 ≤ left .place) × (left .own ≤ left .place) × (2 * left .place ≤ size (now table)) ⌝ }
     ensures { λ r. ⌜ ((t s : List ℕ) → Joining t s (λ q. getD (now (table .entry)) q 0) (left .own) (left .others) (left .place) → id ≡ idAt s (left .others - 1) → length ≡ lengthAt s (left .others - 1) → Joining t s (λ q. getD (now (table .exit)) q 0) (r .own) (r .others) (r .place)) ⌝ }
@@ -78,7 +94,17 @@ pub(crate) fn turn(table: &mut [u64], left: Left, id: u64, length: u64) -> Left
             place: place,
         };
     }
-    let now = settle(table[2 * own - 2], 0, table[2 * own - 1], id, 0, length);
+    let mine = table[2 * own - 2];
+    let kept = table[2 * own - 1];
+    if goes_over(own, others, mine, id) {
+        put(table, 2 * place, mine, kept);
+        return Left {
+            own: own - 1,
+            others: others,
+            place: place,
+        };
+    }
+    let now = settle(mine, 0, kept, id, 0, length);
     put(table, 2 * place, now.id, now.length);
     Left {
         own: own - now.own,

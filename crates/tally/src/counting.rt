@@ -8,6 +8,9 @@ ghost use Prim.Native.Nat.{_+_, _≤_, _<_};
 ghost use Rattle.rules.specs.meaning.Table.{SoundTable, held, idAt, heldMerged, rises};
 ghost use Rattle.tally.specs.Joined.{Walk};
 
+// A source of which there is one entry to so many of the table is one of few entries.
+const FEW: usize = 8;
+
 // What a merge comes to: the entries that the table and the source have, those that the table ends with, and the lengths that rise.
 pub struct Tally {
     pub own: usize,
@@ -164,7 +167,8 @@ fn walk(table: &[u64], used: usize, entries: &[u64], all: usize) -> At
     }
 }
 
-// As many turns as can be taken at once.
+// As many turns as can be taken at once. Few entries against a long table, as those of a group, are one turn after the other: nearly all of them pass an entry of
+// the table, which is foreseen.
 fn onward(table: &[u64], used: usize, entries: &[u64], all: usize, at: At) -> At
     requires { ⌜ SoundTable (now table) ⌝ }
     requires { ⌜ SoundTable (now entries) ⌝ }
@@ -176,6 +180,9 @@ fn onward(table: &[u64], used: usize, entries: &[u64], all: usize, at: At) -> At
 {
     let own = at.own;
     let others = at.others;
+    if all <= used / FEW {
+        return turn(table, used, entries, at);
+    }
     if used <= own + 8 {
         return turn(table, used, entries, at);
     }
