@@ -1,32 +1,24 @@
 -- The lag query: what the judge before its own tests makes of it.
 -- Assumes nothing.
 use Prim.Native.Nat.{ℕ, zero, suc}
-use mathlib.Core.Bool.{Bool, true, false, not, cond}
+use mathlib.Core.Bool.{cond}
 use mathlib.Core.Path.{_≡_, refl, sym, ap, _∙_}
-use mathlib.Core.List.{List, [], _∷_}
-use lib.ListN.{length}
+use mathlib.Core.List.{List}
 use lib.Dec.{eqb}
 use borrow.Author.Tests.{ne-eqb}
 use Rattle.rules.specs.declared.Run.{Run}
 use Rattle.rules.specs.declared.Sight.{Sight}
-use Rattle.rules.specs.meaning.Refusals.{Test, _when_, firstGiven}
-use Rattle.rules.specs.meaning.States.{sizesRight, allSound}
+use Rattle.rules.specs.meaning.Refusals.{firstGiven}
 use Rattle.rules.specs.meaning.Lags.{lagTests, lagGiven, lagIn, lastSent}
 use Rattle.rules.specs.meaning.Serials.{lagOf}
 use Rattle.judge.specs.Judged.{judgement}
+use Rattle.judge.proofs.Judging.{judged-before}
 use Rattle.sites.specs.Values.{refusedLag}
-
--- 1 and 2 before other tests
-two-first : (a b : Bool) (ts : List Test) → firstGiven ((1 when a) ∷ (2 when b) ∷ ts) ≡ cond (eqb (firstGiven ((1 when a) ∷ (2 when b) ∷ [])) 0) (firstGiven ts) (firstGiven ((1 when a) ∷ (2 when b) ∷ []))
-unfolding firstGiven
-two-first true b ts = refl
-two-first false true ts = refl
-two-first false false ts = refl
 
 module _ (run : Run) (ws : List ℕ) (si : Sight) (f t : ℕ) where
   by-judge : lagIn run ws si f t ≡ lagGiven (cond (eqb (judgement run ws si) 0) (firstGiven (lagTests run (si .books .pair) f t)) (judgement run ws si)) (si .books .pair)
-  unfolding lagIn judgement
-  by-judge = ap (λ (r : ℕ). lagGiven r (si .books .pair)) (two-first (not (sizesRight run (length ws) (si .count))) (not (allSound run ws si)) (lagTests run (si .books .pair) f t))
+  unfolding lagIn
+  by-judge = ap (λ (r : ℕ). lagGiven r (si .books .pair)) (judged-before run ws si (lagTests run (si .books .pair) f t))
 
   -- an answer with a refusal
   as-refused : (r : ℕ) → (r ≡ 0 → ⊥) → refusedLag r ≡ lagGiven r (si .books .pair)

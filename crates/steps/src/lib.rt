@@ -15,4 +15,6 @@ pub use looks::link_of;
 pub use looks::needs_slot;
 pub use looks::slot_of;
 pub use low::low_after;
+pub use places::Part;
+pub use places::part_of;
 pub use verdict::Verdict;

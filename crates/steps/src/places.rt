@@ -11,7 +11,7 @@ pub struct Part {
 }
 
 // The part of the words that is a site's table.
-pub(crate) fn part_of(run: Run, site: u64) -> Part
+pub fn part_of(run: Run, site: u64) -> Part
     requires { ⌜ (site < run .sites) × ((run .sites ≤ 16) × (run .capacity ≤ 2048)) ⌝ }
     ensures { λ r. ⌜ (r .from ≡ site * width run) × (r .to ≡ site * width run + width run) ⌝ }
 {

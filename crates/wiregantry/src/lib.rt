@@ -9,6 +9,8 @@ ghost use mathlib.Core.Path.{_≡_};
 ghost use Rattle.rules.specs.meaning.Area.{readRefusal, areaAfter};
 ghost use Rattle.rules.specs.meaning.Bursts.{Handled};
 ghost use Rattle.rules.specs.meaning.Calls.{Called};
+ghost use Rattle.rules.specs.meaning.Events.{absorbs, Happened};
+ghost use Rattle.rules.specs.meaning.Groups.{Written, Entered};
 ghost use Rattle.rules.specs.meaning.Lags.{lagAnswer};
 ghost use Rattle.rules.specs.meaning.Members.{Answered};
 ghost use Rattle.rules.specs.meaning.Reports.{Told};
@@ -107,6 +109,29 @@ pub extern "C" fn wg_burst(
     bursts::burst(words, slots, ledger, run, asks, answers)
 }
 
+// A group's bytes absorbed at a site of a run: how many lengths rose. Of the run only the words of that site are written.
+#[no_mangle]
+pub extern "C" fn wg_absorb(
+    words: &mut [u64],
+    slots: &[Parcel],
+    ledger: &Ledger,
+    sites: u64,
+    capacity: u64,
+    site: u64,
+    bytes: &[u8],
+    rose: &mut u64,
+) -> u32
+    ensures { λ r. ⌜ Happened (record { sites = sites; capacity = capacity }) (lent (now (words .entry)) (now (slots .entry)) (now (ledger .entry))) (absorbs site (now (bytes .entry))) (record { refusal = r; value = now (rose .exit) }) (lent (now (words .exit)) (now (slots .entry)) (now (ledger .entry))) ⌝ }
+{
+    let run = Run {
+        sites: sites,
+        capacity: capacity,
+    };
+    let answer = intake::absorb(words, slots, ledger, run, site, bytes);
+    *rose = answer.value;
+    answer.refusal
+}
+
 // Bulk membership: an answer for each id, in the bits of the answers.
 #[no_mangle]
 pub extern "C" fn wg_members(table: &[u64], ids: &[u64], answers: &mut [u8]) -> u32
@@ -152,5 +177,25 @@ pub extern "C" fn wg_report(input: &[u8], out: &mut [u8], written: &mut usize) -
 {
     let told = report::report(input, out);
     *written = told.written;
+    told.refusal
+}
+
+// A group's entries written as bytes at the front of the buffer, and how many bytes it has.
+#[no_mangle]
+pub extern "C" fn wg_write_group(entries: &[u64], out: &mut [u8], written: &mut usize) -> u32
+    ensures { λ r. ⌜ Written (now (entries .entry)) (now (out .entry)) (record { refusal = r; count = now (written .exit) }) (now (out .exit)) ⌝ }
+{
+    let told = groups::write_group(entries, out);
+    *written = told.count;
+    told.refusal
+}
+
+// The entries of the group that bytes form at the front of the words that are lent, and how many they are.
+#[no_mangle]
+pub extern "C" fn wg_read_group(bytes: &[u8], entries: &mut [u64], count: &mut usize) -> u32
+    ensures { λ r. ⌜ Entered (now (bytes .entry)) (now (entries .entry)) (record { refusal = r; count = now (count .exit) }) (now (entries .exit)) ⌝ }
+{
+    let told = groups::read_group(bytes, entries);
+    *count = told.count;
     told.refusal
 }
