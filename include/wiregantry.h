@@ -6,7 +6,7 @@
  * keeps nothing between two calls.
  *
  * Every function takes any numbers and any contents, always returns, and answers 0 (accepted) or the number of a refusal. A refused call
- * has written nothing but the 0 in its `value`, `lag` or `written`. Refusal numbers never change their meaning.
+ * has written nothing but the 0 in its `value`, `lag`, `written`, `count` or `rose`. Refusal numbers never change their meaning.
  *
  * What the caller owes, since no proof reaches the calling side:
  *
@@ -42,6 +42,8 @@ typedef char wg_needs_sizes_of_64_bits[sizeof(size_t) == 8 ? 1 : -1];
 #define WG_SERIAL_MAX 4294967295u   /* the last serial; the one after it is 0 */
 #define WG_LAG_MAX 2147483647       /* a lag is from -WG_LAG_MAX to this */
 #define WG_MEMBERS_MAX 4096u        /* ids of one call of wg_members */
+#define WG_GROUP_ENTRIES 64u        /* entries of one group: 0 to this */
+#define WG_GROUP_MAX 961u           /* bytes of room that every group fits; the longest has 898 */
 #define WG_LINE_MAX 83u             /* bytes of the longest step line, without its line end */
 #define WG_AREA 32u                 /* bytes that wg_read_line fills */
 #define WG_INPUT_MAX 32768u         /* bytes of input that wg_report runs */
@@ -51,6 +53,9 @@ typedef char wg_needs_sizes_of_64_bits[sizeof(size_t) == 8 ? 1 : -1];
 /* The words of a run, and the bytes that the answers on n ids take. */
 #define WG_WORDS(sites, capacity) ((size_t)(sites) * 2u * (size_t)(capacity))
 #define WG_ANSWERS(n) (((size_t)(n) + 7u) / 8u)
+
+/* The words of n entries, each an id and a length. */
+#define WG_ENTRIES(n) ((size_t)(n) * 2u)
 
 /* The words of a burst of n steps: of its asks, and of the answers to them. */
 #define WG_ASKS(n) ((size_t)(n) * 4u)
@@ -103,6 +108,7 @@ typedef char wg_needs_sizes_of_64_bits[sizeof(size_t) == 8 ? 1 : -1];
 #define WG_MANY_IDS 14u       /* bulk membership asked for more than WG_MEMBERS_MAX ids */
 #define WG_NO_ORDER 15u       /* two serials that cannot be ordered: they are exactly 2147483648 apart */
 #define WG_NOTHING_HEARD 16u  /* nothing was sent, or nothing heard, on that pair of sites */
+#define WG_NO_GROUP 17u       /* the bytes or the entries form no group */
 
 /* A few words on a refusal for people to read; never NULL. */
 static inline const char *wg_refusal_text(uint32_t refusal) {
@@ -124,6 +130,7 @@ static inline const char *wg_refusal_text(uint32_t refusal) {
     case WG_MANY_IDS: return "too many ids asked for";
     case WG_NO_ORDER: return "two serials that cannot be ordered";
     case WG_NOTHING_HEARD: return "nothing sent or nothing heard on that pair";
+    case WG_NO_GROUP: return "not a group";
     default: return "not a refusal of this version";
     }
 }
@@ -204,13 +211,40 @@ uint32_t wg_burst(uint64_t *words, size_t n_words, wg_parcel *slots, size_t n_sl
 
 /* How far site `to` is behind site `from`: *lag is the newest serial that `to` heard from `from`, less the last that `from` sent to `to`, as a
  * signed difference. 0: the last one sent was heard, whatever was lost before it. -3: three were sent after the newest heard; they may be under
- * way or lost. A merge has no serial and moves no lag. In a run from wg_fresh on a lag is above 0 only where more than 2147483648 were sent after
+ * way or lost. A merge or a group has no serial and moves no lag. In a run from wg_fresh on a lag is above 0 only where more than 2147483648 were sent after
  * the newest heard. Nothing that is lent changes but *lag.
  * Refuses in this order, with *lag 0: 1 and 2 as in wg_step; 3 no such site (either); 4 both the same; 16 nothing was sent or nothing heard on
  * that pair; 15 the two serials are exactly 2147483648 apart. */
 uint32_t wg_lag(uint64_t *words, size_t n_words, wg_parcel *slots, size_t n_slots, wg_ledger *ledger,
                 uint64_t sites, uint64_t capacity,
                 uint64_t from, uint64_t to, int32_t *lag);
+
+/* A group is 0 to 64 entries, ids strictly rising and lengths 1 to WG_LENGTH_MAX, in words as in a table: up to 64 entries in use of a table, from
+ * any of them on, are a group as they stand. Its bytes, for one datagram, are numbers: how many entries; then for each entry its id (the first one)
+ * or how far its id lies above the one before, less 1 (the others), and its length less 1. Each number is unsigned LEB128, as in DWARF: seven bits to
+ * a byte, the lowest first, and 128 added in each byte but the last; only the shortest form will do. {7:2, 8:3} is the bytes 2, 7, 1, 0, 2. A group
+ * has one string of bytes, and a string of bytes at most one group. */
+
+/* Writes the bytes of a group to the front of out. *written is how many they are; bytes behind them keep what they had. n_words counts words:
+ * WG_ENTRIES(n) for n entries.
+ * Refuses in this order, with *written 0: 17 exactly when n_words is odd or above 128, an id is not above the one before it, or a length is 0 or above
+ * WG_LENGTH_MAX; 13 exactly when room is below the length of this very group. WG_GROUP_MAX is always enough. */
+uint32_t wg_write_group(const uint64_t *entries, size_t n_words, uint8_t *out, size_t room, size_t *written);
+
+/* Reads the n bytes of a group and writes its entries to the front of the words. *count is how many entries they are; words behind them keep what
+ * they had.
+ * Refuses in this order, with *count 0: 17 exactly when the bytes form no group: they are cut short (as no bytes at all are) or go on behind the
+ * last entry, a number has more bytes than it needs or is past 64 bits, there are more than 64 entries, the gaps lead to an id past 64 bits, or a length
+ * is above WG_LENGTH_MAX; 13 exactly when n_words is below two for each entry. WG_ENTRIES(WG_GROUP_ENTRIES) is always enough. */
+uint32_t wg_read_group(const uint8_t *bytes, size_t n, uint64_t *entries, size_t n_words, size_t *count);
+
+/* Takes the n bytes of a group in at a site, all of its entries or none, as a merge takes in a table: each id then has the larger of its two lengths.
+ * *rose is how many lengths rose, new ids among them. It changes that site's table and *rose alone: the ledger does not count it.
+ * Refuses in this order, with *rose 0: 1 and 2 as in wg_step; 3 no such site; 17 as in wg_read_group; 8 the ids of the table and of the group together
+ * are more than the capacity. */
+uint32_t wg_absorb(uint64_t *words, size_t n_words, wg_parcel *slots, size_t n_slots, wg_ledger *ledger,
+                   uint64_t sites, uint64_t capacity,
+                   uint64_t site, const uint8_t *bytes, size_t n, uint64_t *rose);
 
 /* Which of n_ids ids one table lists. Answer i goes into bit i mod 8 of answers[i / 8], lowest bit first; spare bits of the last byte are 0,
  * and bytes behind it keep what they had. The ids may repeat and need no order. No ids: accepted, nothing written.
@@ -307,6 +341,11 @@ static inline uint32_t wg_send(const wg_run *run, uint64_t from, uint64_t to, ui
 /* Merges the whole table of one site into another's; the first is unchanged. Refuses with 1, 2, 3, 4, 8. */
 static inline uint32_t wg_merge(const wg_run *run, uint64_t from, uint64_t to, uint64_t *rose) {
     return wg_do(run, WG_MERGE, from, to, 0, rose);
+}
+
+/* wg_absorb on a run: takes in, at a site, a group as it came in a datagram. Refuses with 1, 2, 3, 17, 8. */
+static inline uint32_t wg_take_in(const wg_run *run, uint64_t site, const uint8_t *bytes, size_t n, uint64_t *rose) {
+    return wg_absorb(run->words, run->n_words, run->slots, run->n_slots, run->ledger, run->sites, run->capacity, site, bytes, n, rose);
 }
 
 /* Delivers the parcel in a slot at its site. Refuses with 1, 2, 5, 15, 8, 10. */

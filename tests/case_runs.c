@@ -186,6 +186,7 @@ void case_run(rng *r, int large) {
     for (k = 0; k < steps; k++) {
         do_step(r, &s, one_in(r, 4) ? some_numbers(r, &s, &ids_of_case) : telling_numbers(r, &s, &ids_of_case));
         if (one_in(r, 24)) do_lag(r, &s);
+        if (one_in(r, 24)) absorb_some(r, &s);
     }
 }
 

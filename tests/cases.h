@@ -18,6 +18,12 @@ void case_burst(rng *r, int large);
 /* case_merges.c: two tables that meet in stretches */
 void case_merge(rng *r, int large);
 
+/* case_groups.c: a group written and read */
+void case_group(rng *r);
+
+/* case_absorbs.c: a group absorbed at a site */
+void case_absorb(rng *r, int large);
+
 /* case_texts.c: bulk membership, lines, reports */
 void case_members(rng *r, int large);
 void case_read(rng *r);
@@ -54,5 +60,12 @@ uint32_t do_step(rng *r, const shape *s, numbers n);
 /* In case_bursts.c: a burst in a sound state that both have, compared with the model's and with its own steps one by one. */
 typedef numbers chooser(rng *r, const shape *s, const pool *p);
 void burst_placed(rng *r, const shape *s, size_t steps, chooser *choose);
+
+/* In case_groups.c: the bytes of a group for both; and behind the call in words, as many of them as there is room to print. */
+void place_bytes(rng *r, const uint8_t *bytes, size_t n);
+void tell_bytes(const uint8_t *bytes, size_t n);
+
+/* In case_absorbs.c: a group of the ids of the case, absorbed at a site of a run that both have. */
+void absorb_some(rng *r, const shape *s);
 
 #endif

@@ -9,6 +9,7 @@
 #include <unistd.h>
 
 #include "cases.h"
+#include "groups.h"
 #include "texts.h"
 
 uint64_t seed = 20200427, number;
@@ -29,7 +30,7 @@ void stopped(int sig) {
     differ("%s", sig == SIGALRM ? "the call did not return in 100 seconds" : "a read or write outside what was lent");
 }
 
-area words, slots, ledger, value, lag, asks, burst_answers, ids, answers, line, room, input, out, written;
+area words, slots, ledger, value, lag, asks, burst_answers, group_words, group_bytes, entry_count, ids, answers, line, room, input, out, written;
 
 void same_areas(area *const *list) {
     size_t place;
@@ -67,6 +68,9 @@ void make_areas(void) {
     area_make(&lag, "lag", 4);
     area_make(&asks, "asks", (4 * LONGEST_BURST + 3) * 8);
     area_make(&burst_answers, "answers", (2 * LONGEST_BURST + 20) * 8);
+    area_make(&group_words, "entries", (GROUP_WORDS + 120) * 8);
+    area_make(&group_bytes, "bytes", GROUP_BYTES);
+    area_make(&entry_count, "count", sizeof(size_t));
     area_make(&ids, "ids", 4100 * 8);
     area_make(&answers, "answers", 600);
     area_make(&line, "line", 2 * LINE_ROOM);

@@ -12,7 +12,7 @@ _Noreturn void differ(const char *what, ...);
 /* For signals: a touch outside the lent memory, or a call that does not return, is a difference too. */
 void stopped(int sig);
 
-extern area words, slots, ledger, value, lag, asks, burst_answers, ids, answers, line, room, input, out, written;
+extern area words, slots, ledger, value, lag, asks, burst_answers, group_words, group_bytes, entry_count, ids, answers, line, room, input, out, written;
 
 #define LIB(a, type) ((type *)(void *)(a).start[0])
 #define MOD(a, type) ((type *)(void *)(a).start[1])

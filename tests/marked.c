@@ -1,5 +1,5 @@
-/* marked.c: the twelve marked examples P1 to P12, a burst, serials round their wrap and the sample report, with the very numbers and texts of the
- * rules, through the header's named calls. It compiles as C and as C++. */
+/* marked.c: the twelve marked examples P1 to P12, a burst, serials round their wrap, the marked group and the sample report, with the very numbers and
+ * texts of the rules, through the header's named calls. It compiles as C and as C++. */
 #include <inttypes.h>
 #include <stdio.h>
 #include <string.h>
@@ -281,6 +281,122 @@ static void other_pairs(void) {
     same("one site with a parcel", wg_query(&run, 0, 7, &length), 2);
 }
 
+/* ---- groups ---- */
+
+static const uint64_t two_entries[4] = {7, 2, 8, 3};
+static const uint8_t two_bytes[5] = {2, 7, 1, 0, 2};
+
+static void same_bytes(const char *what, const uint8_t *got, const uint8_t *want, size_t n) {
+    size_t k;
+    for (k = 0; k < n; k++) same(what, got[k], want[k]);
+}
+
+static void the_marked_group(void) {
+    static const uint8_t with_more[6] = {2, 7, 1, 0, 2, 99}, untouched[6] = {99, 99, 99, 99, 99, 99};
+    static const uint64_t more_words[5] = {7, 2, 8, 3, 99}, untouched_words[5] = {99, 99, 99, 99, 99};
+    uint8_t bytes[6];
+    uint64_t entries[5] = {99, 99, 99, 99, 99};
+    size_t n = 99;
+    memset(bytes, 99, sizeof bytes);
+    same("a byte short", wg_write_group(two_entries, WG_ENTRIES(2), bytes, 4, &n), 13);
+    same("a byte short", n, 0);
+    same_bytes("a byte short", bytes, untouched, 6);
+    same("{7:2, 8:3}", wg_write_group(two_entries, WG_ENTRIES(2), bytes, sizeof bytes, &n), 0);
+    same("{7:2, 8:3}", n, 5);
+    same_bytes("{7:2, 8:3}", bytes, with_more, 6);
+    n = 99;
+    same("a word short", wg_read_group(two_bytes, 5, entries, 3, &n), 13);
+    same("a word short", n, 0);
+    same_words("a word short", entries, untouched_words, 5);
+    same("2, 7, 1, 0, 2", wg_read_group(two_bytes, 5, entries, 5, &n), 0);
+    same("2, 7, 1, 0, 2", n, 2);
+    same_words("2, 7, 1, 0, 2", entries, more_words, 5);
+}
+
+static void no_group_in(const char *what, const uint8_t *bytes, size_t n) {
+    uint64_t entries[WG_ENTRIES(WG_GROUP_ENTRIES)];
+    size_t count = 99;
+    same(what, wg_read_group(bytes, n, entries, WG_ENTRIES(WG_GROUP_ENTRIES), &count), 17);
+    same(what, count, 0);
+}
+
+static void no_groups(void) {
+    static const uint8_t padded[6] = {2, 7, 1, 128, 0, 2}, left_over[6] = {2, 7, 1, 0, 2, 0}, long_length[7] = {1, 7, 255, 255, 255, 255, 15};
+    static const uint8_t past_64_bits[12] = {1, 128, 128, 128, 128, 128, 128, 128, 128, 128, 2, 0};
+    static const uint8_t past_the_last_id[14] = {2, 255, 255, 255, 255, 255, 255, 255, 255, 255, 1, 0, 0, 0};
+    static const uint64_t equal[4] = {7, 2, 7, 3}, no_length[2] = {7, 0};
+    uint64_t many[WG_ENTRIES(65)], k;
+    uint8_t bytes[WG_GROUP_MAX];
+    size_t n;
+    no_group_in("no bytes", two_bytes, 0);
+    for (k = 0; k < 5; k++) no_group_in("cut short", two_bytes, (size_t)k);
+    no_group_in("left over", left_over, 6);
+    no_group_in("padded", padded, 6);
+    no_group_in("a length of M + 1", long_length, 7);
+    no_group_in("a number of 65 bits", past_64_bits, 12);
+    no_group_in("an id of 65 bits", past_the_last_id, 14);
+    for (k = 0; k < 65; k++) {
+        many[2 * k] = k;
+        many[2 * k + 1] = 1;
+    }
+    same("64 entries", wg_write_group(many, WG_ENTRIES(64), bytes, sizeof bytes, &n), 0);
+    same("64 entries", n, 129);
+    same("65 entries", wg_write_group(many, WG_ENTRIES(65), bytes, sizeof bytes, &n), 17);
+    same("three words", wg_write_group(many, 3, bytes, sizeof bytes, &n), 17);
+    same("equal ids, and no room", wg_write_group(equal, 4, bytes, 0, &n), 17);
+    same("no length", wg_write_group(no_length, 2, bytes, sizeof bytes, &n), 17);
+    same("no length", n, 0);
+}
+
+/* The ids as far apart as 64 of them can be, with the largest length. */
+static void the_longest_group(void) {
+    uint64_t entries[WG_ENTRIES(64)], id = UINT64_C(1) << 63, k;
+    uint8_t bytes[WG_GROUP_MAX];
+    size_t n;
+    for (k = 0; k < 64; k++, id += (UINT64_C(1) << 56) + 1) {
+        entries[2 * k] = id;
+        entries[2 * k + 1] = M;
+    }
+    same("the longest group", wg_write_group(entries, WG_ENTRIES(64), bytes, sizeof bytes, &n), 0);
+    same("the longest group", n, 898);
+    same("no entries", wg_write_group(entries, 0, bytes, 1, &n), 0);
+    same("no entries", n, 1);
+    same("no entries", bytes[0], 0);
+}
+
+static void absorbed(void) {
+    static const uint64_t before[6] = {7, 2, 9, 1, 0, 0}, after[6] = {7, 2, 8, 3, 9, 1};
+    static const uint8_t empty[1] = {0};
+    static wg_ledger ledger_before;
+    wg_run run = run_of(3);
+    uint64_t rose = 99;
+    lay(words + 6, before, 3);
+    ledger_before = ledger;
+    same("absorbed", wg_take_in(&run, 1, two_bytes, 5, &rose), 0);
+    same("absorbed", rose, 1);
+    same_table("absorbed", words + 6, after, 3);
+    same("absorbed, the other site", words[1], 0);
+    same("absorbed, the ledger", (uint64_t)memcmp(&ledger_before, &ledger, sizeof ledger), 0);
+    same("absorbed again", wg_take_in(&run, 1, two_bytes, 5, &rose), 0);
+    same("absorbed again", rose, 0);
+    same("no group", wg_take_in(&run, 1, two_bytes, 4, &rose), 17);
+    same("no site and no group", wg_take_in(&run, 2, two_bytes, 4, &rose), 3);
+    run = run_of(2);
+    lay(words + 4, before, 2);
+    same("no room", wg_take_in(&run, 1, two_bytes, 5, &rose), 8);
+    same("no room", rose, 0);
+    same_table("no room", words + 4, before, 2);
+    same("no room and no group", wg_take_in(&run, 1, two_bytes, 4, &rose), 17);
+    run = run_of(0);
+    same("no entries into no table", wg_take_in(&run, 0, empty, 1, &rose), 0);
+    words[0] = 1; /* an id without a length, in a run of capacity 1 */
+    run.capacity = 1;
+    run.n_words = 4;
+    same("unsound and no site", wg_take_in(&run, 9, two_bytes, 4, &rose), 2);
+    run.n_words = 3;
+    same("sizes", wg_take_in(&run, 9, two_bytes, 4, &rose), 1);
+}
+
 static const char sample[] =
     "step=add node=0 id=7\nstep=add node=1 id=7\nstep=send from=1 to=2 id=7\nstep=deliver slot=0\nstep=remove node=0 id=7\n"
     "step=remove node=1 id=7\nstep=remove node=2 id=7\nstep=add node=1 id=7\nstep=send from=0 to=1 id=7\nstep=again slot=0\n"
@@ -354,10 +470,14 @@ int main(void) {
     lags();
     no_order();
     other_pairs();
+    the_marked_group();
+    no_groups();
+    the_longest_group();
+    absorbed();
     reports();
     lines();
-    for (k = 0; k < 18; k++)
+    for (k = 0; k < 19; k++)
         if (wg_refusal_text(k)[0] == 0) wrong = 1;
-    if (!wrong) printf("marked: P1 to P12, the burst, the serials, the sample report, the longest line and the longest report are as the rules say\n");
+    if (!wrong) printf("marked: P1 to P12, the burst, the serials, the groups, the sample report, the longest line and the longest report are as the rules say\n");
     return wrong;
 }

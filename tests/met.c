@@ -22,6 +22,9 @@ static const struct {
     {"no kind", 1 << 11},
     {"burst", 1 << 0 | 1 << 1 | 1 << 2 | 1 << 11 | 1 << 13},
     {"lag", 1 << 0 | 1 << 1 | 1 << 2 | 1 << 3 | 1 << 4 | 1 << 15 | 1 << 16},
+    {"write_group", 1 << 0 | 1 << 13 | 1 << 17},
+    {"read_group", 1 << 0 | 1 << 13 | 1 << 17},
+    {"absorb", 1 << 0 | 1 << 1 | 1 << 2 | 1 << 3 | 1 << 8 | 1 << 17},
     {"members", 1 << 0 | 1 << 1 | 1 << 2 | 1 << 13 | 1 << 14},
     {"read_line", 1 << 0 | 1 << 11 | 1 << 13},
     {"check_line", 1 << 0 | 1 << 11 | 1 << 13},
@@ -30,7 +33,7 @@ static const struct {
     {"burst step", 1 << 0 | 1 << 3 | 1 << 4 | 1 << 5 | 1 << 6 | 1 << 7 | 1 << 8 | 1 << 9 | 1 << 10 | 1 << 11 | 1 << 15},
 };
 
-enum { REFUSALS = 17, SELDOM = 1000 };
+enum { REFUSALS = 18, SELDOM = 1000 };
 
 static uint64_t met[ROWS][REFUSALS], damaged[DAMAGES];
 
@@ -75,7 +78,7 @@ void meet_damage(unsigned way) { damaged[way]++; }
 
 static int print_row(int call) {
     int k, missed = 0;
-    printf("%-11s", calls[call].name);
+    printf("%-12s", calls[call].name);
     for (k = 0; k < REFUSALS; k++) {
         if (!(calls[call].can >> k & 1)) {
             printf("%9s", "");
@@ -91,20 +94,21 @@ static int print_row(int call) {
 static int print_refusals(void) {
     int c, k, missed = 0;
     uint64_t sum[REFUSALS] = {0};
-    printf("%-11s", "refusal");
+    printf("%-12s", "refusal");
     for (k = 0; k < REFUSALS; k++) printf("%9d", k);
     printf("\n");
     for (c = 0; c < CALLS; c++) {
         missed += print_row(c);
         for (k = 0; k < REFUSALS; k++) sum[k] += met[c][k];
     }
-    printf("%-11s", "all");
+    printf("%-12s", "all");
     for (k = 0; k < REFUSALS; k++) printf("%9" PRIu64, sum[k]);
     printf("\n");
     for (k = 1; k < REFUSALS; k++)
         if (sum[k] < SELDOM) missed++;
     for (c = LAG, k = 15; k <= 16; k++) missed += met[c][k] < SELDOM;
     missed += met[DELIVER][15] < SELDOM;
+    for (c = WRITE_GROUP; c <= ABSORB; c++) missed += met[c][17] < SELDOM;
     return missed + print_row(IN_BURST);
 }
 
@@ -127,11 +131,27 @@ static int print_counts(const char *what, const char *const *names, const uint64
     return missed;
 }
 
+static int print_groups(void) {
+    static const char *const what[GROUP_DAMAGES] = {
+        "bytes of no group", "bytes of no group, and no word", "bytes of no group, to absorb", "words of no group", "words of no group, and no byte",
+    };
+    const char *const *names;
+    int k, n, missed;
+    sum_up_groups();
+    missed = print_counts("groups", group_names, groups, group_count);
+    for (k = 0; k < GROUP_DAMAGES; k++) {
+        const uint64_t *counts = group_damage(k, &names, &n);
+        missed += print_counts(what[k], names, counts, n);
+    }
+    return missed;
+}
+
 int print_met(void) {
     int missed = print_refusals();
     missed += print_damages();
     missed += print_counts("steps at sizes", size_names, at_size, 8);
     missed += print_counts("bursts", burst_names, bursts, 4);
     missed += print_counts("serials", serial_names, serials, serial_count);
-    return missed + print_counts("merges", merge_names, merges, merge_count);
+    missed += print_counts("merges", merge_names, merges, merge_count);
+    return missed + print_groups();
 }

@@ -5,7 +5,10 @@
 #include "states.h"
 
 /* IN_BURST is no call: its refusals are the answers to the steps inside bursts. */
-enum { FRESH, ADD, REMOVE, QUERY, SEND, MERGE, DELIVER, AGAIN, LOSE, NO_KIND, BURST, LAG, MEMBERS, READ, CHECK, WRITE, REPORT, CALLS, IN_BURST = CALLS, ROWS };
+enum {
+    FRESH, ADD, REMOVE, QUERY, SEND, MERGE, DELIVER, AGAIN, LOSE, NO_KIND, BURST, LAG, WRITE_GROUP, READ_GROUP, ABSORB, MEMBERS, READ, CHECK, WRITE,
+    REPORT, CALLS, IN_BURST = CALLS, ROWS
+};
 
 /* The call for the steps of that kind. */
 int call_of(uint64_t kind);
@@ -42,6 +45,30 @@ void meet_merge(const joint *before, const shape *s, uint64_t from, uint64_t to,
 extern const char *const merge_names[];
 extern uint64_t merges[];
 extern const int merge_count;
+
+/* met_groups.c: a group that one of the three calls took, and its bytes; how much room a group had, and needed; what was wrong with one that was
+ * refused, with how much room; every bit of one turned over; a group into a table, as it stood, and what was answered; one that is wrong where there
+ * was no room for it either, and one for a site that is not there. */
+void meet_group(int call, const uint64_t *entries, size_t count, size_t bytes);
+void meet_room(int call, size_t has, size_t needs);
+void meet_word_damage(unsigned way, size_t has);
+void meet_byte_damage(unsigned way, size_t has);
+void meet_every_bit(void);
+void meet_absorb(const joint *before, const shape *s, uint32_t refusal, uint64_t rose);
+void meet_wrong_absorb(unsigned way, int no_room);
+void meet_outside(int wrong);
+
+extern const char *const group_names[];
+extern uint64_t groups[];
+extern const int group_count;
+
+/* Fills in what is known at the end alone: how often the rarest of the sizes and widths was met. */
+void sum_up_groups(void);
+
+/* How often the bytes of a group were wrong in each way, read with enough room (0) and with none (1), and absorbed (2); and words that were to be
+ * written, with enough room (3) and with none (4). */
+enum { GROUP_DAMAGES = 5 };
+const uint64_t *group_damage(int of, const char *const **names, int *n);
 
 /* Prints all of it, and returns how much was not met, or a refusal too seldom. */
 int print_met(void);

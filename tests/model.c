@@ -407,6 +407,32 @@ uint32_t model_burst(uint64_t *words, size_t n_words, wg_parcel *slots, size_t n
     return 0;
 }
 
+/* ---- groups at a site ---- */
+
+/* "Absorbing a group's bytes at a site is all or none and returns how many lengths rose"; "the ledger doesn't count them" */
+uint32_t model_absorb(uint64_t *words, size_t n_words, wg_parcel *slots, size_t n_slots, wg_ledger *ledger,
+                      uint64_t sites, uint64_t capacity,
+                      uint64_t site, const uint8_t *bytes, size_t n, uint64_t *rose) {
+    const wg_run run = {words, n_words, slots, n_slots, ledger, sites, capacity};
+    uint64_t entries[2 * 64], up = 0;
+    size_t count, k;
+    *rose = 0;
+    if (!sizes(&run)) return 1;
+    if (!sound(&run)) return 2; /* all three that are lent, though it writes one table */
+    if (site >= sites) return 3;
+    if (model_read_group(bytes, n, entries, 2 * 64, &count) != 0) return 17;
+    joined = tables[site];
+    for (k = 0; k < count; k++) {
+        uint64_t id = entries[2 * k], told = entries[2 * k + 1], now = length_of(&joined, id);
+        if (told > now) put(&joined, id, told);
+        if (told > now) up++;
+    }
+    if (joined.count > capacity) return 8;
+    pack(&joined, words_of(&run, site), capacity);
+    *rose = up;
+    return 0;
+}
+
 /* ---- bulk membership ---- */
 
 uint32_t model_members(const uint64_t *table, size_t n_words, const uint64_t *ids, size_t n_ids,

@@ -1,5 +1,5 @@
-/* model.h: everything that C can call, a second time. model.c is written from the rules in words, with the plainest means, so that it and the
- * library have nothing in common but the document that both follow. The parameters are those of include/wiregantry.h. */
+/* model.h: everything that C can call, a second time. model.c and model_groups.c are written from the rules in words, with the plainest means, so
+ * that they and the library have nothing in common but the document that both follow. The parameters are those of include/wiregantry.h. */
 #ifndef MODEL_H
 #define MODEL_H
 
@@ -16,6 +16,11 @@ uint32_t model_burst(uint64_t *words, size_t n_words, wg_parcel *slots, size_t n
 uint32_t model_lag(uint64_t *words, size_t n_words, wg_parcel *slots, size_t n_slots, wg_ledger *ledger,
                    uint64_t sites, uint64_t capacity,
                    uint64_t from, uint64_t to, int32_t *lag);
+uint32_t model_write_group(const uint64_t *entries, size_t n_words, uint8_t *out, size_t room, size_t *written);
+uint32_t model_read_group(const uint8_t *bytes, size_t n, uint64_t *entries, size_t n_words, size_t *count);
+uint32_t model_absorb(uint64_t *words, size_t n_words, wg_parcel *slots, size_t n_slots, wg_ledger *ledger,
+                      uint64_t sites, uint64_t capacity,
+                      uint64_t site, const uint8_t *bytes, size_t n, uint64_t *rose);
 uint32_t model_members(const uint64_t *table, size_t n_words, const uint64_t *ids, size_t n_ids,
                        uint8_t *answers, size_t n_answers);
 uint32_t model_read_line(const uint8_t *line, size_t n, uint8_t *area, size_t n_area);

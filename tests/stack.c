@@ -63,6 +63,23 @@ static void *burst(void *unused) {
     return unused;
 }
 
+/* The longest group, written, read and absorbed at a site of the largest state. */
+static void *groups(void *unused) {
+    static uint64_t entries[WG_ENTRIES(WG_GROUP_ENTRIES)];
+    static uint8_t bytes[WG_GROUP_MAX];
+    uint64_t value, id = UINT64_C(1) << 63;
+    size_t n, k, count;
+    start();
+    for (k = 0; k < WG_GROUP_ENTRIES; k++, id += (UINT64_C(1) << 56) + 1) {
+        entries[2 * k] = id;
+        entries[2 * k + 1] = WG_LENGTH_MAX;
+    }
+    if (wg_write_group(entries, WG_ENTRIES(WG_GROUP_ENTRIES), bytes, sizeof bytes, &n) != WG_ACCEPTED) exit(2);
+    if (wg_read_group(bytes, n, entries, WG_ENTRIES(WG_GROUP_ENTRIES), &count) != WG_ACCEPTED) exit(2);
+    if (wg_take_in(&run, 1, bytes, n, &value) != WG_ACCEPTED || value != WG_GROUP_ENTRIES) exit(2);
+    return unused;
+}
+
 static void *members(void *unused) {
     size_t k;
     for (k = 0; k < WG_MEMBERS_MAX; k++) ids[k] = k * 7 % 4096;
@@ -103,7 +120,7 @@ int main(void) {
     static const struct {
         const char *name;
         void *(*calls)(void *);
-    } all[] = {{"steps", steps}, {"burst", burst}, {"members", members}, {"lines", lines}, {"report", report}};
+    } all[] = {{"steps", steps}, {"burst", burst}, {"groups", groups}, {"members", members}, {"lines", lines}, {"report", report}};
     size_t base = used_by(nothing), k, most = 0;
     for (k = 0; k < sizeof all / sizeof *all; k++) {
         size_t used = used_by(all[k].calls);

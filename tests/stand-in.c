@@ -4,9 +4,13 @@
 #define model_step wg_step
 #define model_burst wg_burst
 #define model_lag wg_lag
+#define model_write_group wg_write_group
+#define model_read_group wg_read_group
+#define model_absorb wg_absorb
 #define model_members wg_members
 #define model_read_line wg_read_line
 #define model_check_line wg_check_line
 #define model_write_line wg_write_line
 #define model_report wg_report
 #include <model.c>
+#include <model_groups.c>
