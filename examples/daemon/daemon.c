@@ -1,24 +1,26 @@
-/* daemon.c: three sites as three processes that trade updates over UDP on the loopback. The link is bad on purpose: a seeded coin in each sender
- * drops datagrams, repeats them and holds them back, so that they arrive late and out of order, and in the last rounds one site is cut off. After
- * them the tables differ. Then each site sends its whole table to the others, and all three tables are equal.
+/* daemon.c: three sites as three processes that trade updates over UDP on the loopback, as many to a datagram as wait for the same neighbour. The
+ * link is bad on purpose: a seeded coin in each sender holds updates back, so that they arrive late and out of order, and drops datagrams, cuts them
+ * short and repeats what was in them, and in the last rounds one site is cut off. After them the tables differ. Then each site sends its whole table
+ * to the others, and all three tables are equal.
  *
- * Each process keeps a run of its own with three sites: its own table, and for each neighbour what it knows of the neighbour's. So every
- * change of its memory is a step of the library:
+ * Each process keeps a run of its own with three sites: its own table, and for each neighbour what it was told. So every change of its memory is a
+ * step of the library or a group absorbed:
  *
  *   publish, withdraw        wg_add, wg_remove at the own site, then wg_send to each neighbour: the update waits in a slot, with its serial
- *   the coin drops it        wg_lose
  *   the coin repeats it      wg_again: a second copy waits, with the same serial
- *   it goes out              a datagram with the slot's sender, serial, id and length, and wg_deliver: the neighbour will know this much
- *   a datagram comes in      wg_add and wg_remove at the neighbour's site up to the length that it told, then wg_merge into the own site
+ *   it goes out              with the others for that neighbour, as one group: wg_write_group; and wg_deliver each: the neighbour will know this much
+ *   the coin drops it        wg_lose each
+ *   a datagram comes in      wg_take_in at the own site, one call whatever is in it; a group that was cut short is refused, and nothing of it is taken
  *
- * How far a neighbour is behind is asked of the sender's run, with wg_behind. There the newest serial heard moves on when an update goes out,
- * since on this link the coin alone loses anything; over a real one a daemon would deliver when the neighbour's word comes back. The receivers
- * keep the newest serial that they saw in a datagram, and it must be the sender's.
+ * A group has ids and lengths and nothing else. So a datagram has a few words in front of its group: the sender, how many updates it carries, and the
+ * newest serial that the neighbour has with them. How far a neighbour is behind is asked of the sender's run, with wg_behind. There the newest serial
+ * heard moves on when an update goes out, since on this link the coin alone loses anything; over a real one a daemon would deliver when the
+ * neighbour's word comes back. The receivers keep the newest serial that they saw in a datagram, and it must be the sender's.
  *
  * A lag is about the newest update, not about the tables. 0 says that the last one sent arrived, not that all before it did: between the two sites
- * that are not cut off the lags are small, and some ids differ all the same. And a whole table has no serial, so the repair makes the tables equal
- * and leaves every lag as it was; what ends a lag is the next update that arrives. So the lags are asked for three times: before the repair, after
- * it, and after one more update.
+ * that are not cut off the lags are small, and some ids differ all the same. And a whole table is a group of no updates: it has no serial, so the
+ * repair makes the tables equal and leaves every lag as it was; what ends a lag is the next update that arrives. So the lags are asked for three
+ * times: before the repair, after it, and after one more update.
  *
  * The parent only keeps the rounds in step, so that one seed gives one result, and adds up at the end.
  *
@@ -35,11 +37,10 @@
 #include <unistd.h>
 #include <wiregantry.h>
 
-enum { SITES = 3, CAPACITY = 64, SLOTS = 10, IDS = 48, ROUNDS = 60, LONGEST = 1000 };
+enum { SITES = 3, CAPACITY = WG_GROUP_ENTRIES, SLOTS = 10, IDS = 48, ROUNDS = 60 }; /* a whole table is one group */
 enum { OUTAGE = 6, CUT_OFF = 2 }; /* in so many rounds, the last ones, nothing gets to this site or from it */
 
-#define FIRST 4294967246u      /* the first serial of each pair: after 50 updates it starts again at 0 */
-#define NO_SERIAL UINT64_MAX   /* stands in a datagram that is a whole table */
+#define FIRST 4294967246u /* the first serial of each pair: after 50 updates it starts again at 0 */
 
 static void die(const char *what) {
     perror(what);
@@ -76,7 +77,8 @@ static int umpire;                       /* the pipe to the parent */
 
 /* What a process tells its parent. The first counts are its own, kept beside the ledger to compare with it; so are the numbers by neighbour. */
 typedef struct {
-    uint64_t sends, copies, told, drops, put_off, heard, stale, waiting;
+    uint64_t sends, copies, told, drops, put_off, heard, waiting; /* updates */
+    uint64_t groups, group_bytes, cut_out, cut_in, stale;         /* datagrams */
     uint32_t sends_to[SITES], newest_from[SITES], any_from[SITES];
     int32_t lag[SITES]; /* how far each neighbour is behind */
     wg_ledger ledger;
@@ -87,27 +89,24 @@ static account mine;
 
 static uint64_t *own_table(void) { return words + self * 2 * CAPACITY; }
 
-/* ---- datagrams: the sender, the serial of an update, how many entries, then an id and a length each ---- */
+/* ---- datagrams: the head, and a group behind it ---- */
 
-enum { HEAD = 3 };
+typedef struct {
+    uint32_t sender;
+    uint32_t updates; /* none in a whole table, and then there is no serial */
+    uint32_t newest;  /* the newest serial that the receiver now has */
+} head;
 
-static void tell(uint64_t site, uint64_t serial, const uint64_t *entries, uint64_t count) {
-    uint64_t datagram[HEAD + 2 * CAPACITY];
-    size_t bytes = (size_t)(HEAD + 2 * count) * 8;
-    datagram[0] = self;
-    datagram[1] = serial;
-    datagram[2] = count;
-    memcpy(datagram + HEAD, entries, (size_t)count * 16);
+/* Returns the bytes of the group. Cut short, all but the last byte of it go out. */
+static size_t tell(uint64_t site, uint32_t updates, const uint64_t *entries, size_t count, int cut_short) {
+    head h = {(uint32_t)self, updates, ledger.pairs[self][site].heard};
+    uint8_t datagram[sizeof h + WG_GROUP_MAX];
+    size_t n, bytes;
+    must(wg_write_group(entries, WG_ENTRIES(count), datagram + sizeof h, WG_GROUP_MAX, &n), "write a group");
+    memcpy(datagram, &h, sizeof h);
+    bytes = sizeof h + n - (cut_short ? 1 : 0);
     if (sendto(sockets[self], datagram, bytes, 0, (struct sockaddr *)&places[site], sizeof places[site]) != (ssize_t)bytes) die("sendto");
-}
-
-/* The neighbour says that its length for id is `told`; a lower one is old news. */
-static void learn(uint64_t neighbour, uint64_t id, uint64_t told) {
-    uint64_t length;
-    if (told > LONGEST) return; /* nobody gets that far here: a damaged datagram */
-    must(wg_query(&run, neighbour, id, &length), "query");
-    while (length < told)
-        must(wg_listed(length) ? wg_remove(&run, neighbour, id, &length) : wg_add(&run, neighbour, id, &length), "add or remove");
+    return n;
 }
 
 /* Newer means ahead by less than half of all serials. This is the receiver's own count, to hold against the sender's ledger. */
@@ -118,18 +117,25 @@ static void note_serial(uint64_t neighbour, uint32_t serial) {
 }
 
 static void hear(void) {
-    uint64_t datagram[HEAD + 2 * CAPACITY], k, rose;
+    head h;
+    uint8_t datagram[sizeof h + WG_GROUP_MAX];
     struct pollfd ready = {sockets[self], POLLIN, 0};
+    uint64_t rose;
+    uint32_t refusal;
     ssize_t bytes;
     if (poll(&ready, 1, 5000) != 1) die("a datagram that was sent did not arrive");
     bytes = recv(sockets[self], datagram, sizeof datagram, 0);
-    if (bytes < HEAD * 8 || datagram[0] >= SITES || datagram[0] == self || (datagram[1] > WG_SERIAL_MAX && datagram[1] != NO_SERIAL) ||
-        datagram[2] > CAPACITY || (uint64_t)bytes != HEAD * 8 + 16 * datagram[2])
-        die("a datagram of another form");
-    for (k = 0; k < datagram[2]; k++) learn(datagram[0], datagram[HEAD + 2 * k], datagram[HEAD + 1 + 2 * k]);
-    must(wg_merge(&run, datagram[0], self, &rose), "merge");
-    if (datagram[1] != NO_SERIAL) note_serial(datagram[0], (uint32_t)datagram[1]);
-    mine.heard++;
+    if (bytes < (ssize_t)sizeof h) die("a datagram of another form");
+    memcpy(&h, datagram, sizeof h);
+    if (h.sender >= SITES || h.sender == self) die("a datagram of another form");
+    refusal = wg_take_in(&run, self, datagram + sizeof h, (size_t)bytes - sizeof h, &rose);
+    if (refusal == WG_NO_GROUP) {
+        mine.cut_in++;
+        return;
+    }
+    must(refusal, "absorb");
+    if (h.updates > 0) note_serial(h.sender, h.newest);
+    mine.heard += h.updates;
     mine.stale += rose == 0; /* repeated, overtaken, or known from elsewhere */
 }
 
@@ -153,33 +159,71 @@ static void update(uint64_t id) {
     send_to_all(id);
 }
 
-/* ROUGH: drops, repeats and holds back. CUT: so too, and one site is cut off. LAST: so too, and nothing is held back any more. FAIR: all arrives. */
+/* ROUGH: drops, cuts short, repeats and holds back. CUT: so too, and one site is cut off. LAST: so too, and nothing is held back or repeated any more.
+ * FAIR: all arrives. */
 enum weather { ROUGH, CUT, LAST, FAIR };
 
 static enum weather weather_of(int round) { return round == ROUNDS ? LAST : round >= ROUNDS - OUTAGE ? CUT : ROUGH; }
 
-static int lost_on_the_way(uint64_t site, uint64_t side, enum weather weather) {
-    if (weather == FAIR) return 0;
-    return side < 40 || (weather != ROUGH && (site == CUT_OFF || self == CUT_OFF));
+/* Which of the updates for a site the link takes now. The others are held back, and later ones overtake them. */
+static uint32_t take_some(uint64_t site, enum weather weather, uint64_t taken[SLOTS]) {
+    uint32_t n = 0;
+    uint64_t slot;
+    for (slot = 0; slot < SLOTS; slot++)
+        if (slots[slot].length != 0 && slots[slot].site == site && (weather >= LAST || coin(4) > 0)) taken[n++] = slot;
+    return n;
 }
 
-/* What the link does with the update in a slot. */
-static void travel(uint64_t slot, uint64_t sent_to[SITES], enum weather weather) {
-    uint64_t other, length, entry[2], side = coin(100);
-    wg_parcel parcel = slots[slot];
-    if (weather < LAST && side < 25) return; /* held back: later ones overtake it */
-    if (lost_on_the_way(parcel.site, side, weather)) {
+/* One entry more among rising ones; of two lengths for one id the larger stays. */
+static size_t enter(uint64_t *entries, size_t count, uint64_t id, uint64_t length) {
+    size_t k = count;
+    while (k > 0 && entries[2 * k - 2] > id) k--;
+    if (k > 0 && entries[2 * k - 2] == id) {
+        if (entries[2 * k - 1] < length) entries[2 * k - 1] = length;
+        return count;
+    }
+    memmove(entries + 2 * k + 2, entries + 2 * k, (count - k) * 16);
+    entries[2 * k] = id;
+    entries[2 * k + 1] = length;
+    return count + 1;
+}
+
+/* LOST: nothing arrives. SHORT: what arrives is no group. TWICE: it arrives, and its updates wait once more. */
+enum fate { LOST, SHORT, TWICE, ARRIVES };
+
+static enum fate fate_of(uint64_t site, enum weather weather) {
+    uint64_t side = coin(100);
+    if (weather == FAIR) return ARRIVES;
+    if (weather != ROUGH && (site == CUT_OFF || self == CUT_OFF)) return LOST;
+    return side < 15 ? LOST : side < 20 ? SHORT : side < 45 && weather < LAST ? TWICE : ARRIVES;
+}
+
+/* What the link does with an update that is in the datagram. */
+static void travel(uint64_t slot, enum fate fate) {
+    uint64_t other, length;
+    if (fate == LOST || fate == SHORT) {
         must(wg_lose(&run, slot), "lose");
         mine.drops++;
         return;
     }
-    if (weather < LAST && side < 60 && wg_again(&run, slot, &other) == WG_ACCEPTED) mine.copies++;
-    entry[0] = parcel.id;
-    entry[1] = parcel.length;
-    tell(parcel.site, parcel.serial, entry, 1);
+    if (fate == TWICE && wg_again(&run, slot, &other) == WG_ACCEPTED) mine.copies++;
     must(wg_deliver(&run, slot, &length), "deliver");
-    sent_to[parcel.site]++;
     mine.told++;
+}
+
+/* One datagram, where anything waits for the site. */
+static void send_out(uint64_t site, enum weather weather, uint64_t sent_to[SITES]) {
+    uint64_t taken[SLOTS], entries[WG_ENTRIES(SLOTS)];
+    uint32_t updates = take_some(site, weather, taken), k;
+    enum fate fate = fate_of(site, weather);
+    size_t count = 0, bytes;
+    for (k = 0; k < updates; k++) count = enter(entries, count, slots[taken[k]].id, slots[taken[k]].length);
+    for (k = 0; k < updates; k++) travel(taken[k], fate);
+    if (updates == 0 || fate == LOST) return;
+    bytes = tell(site, updates, entries, count, fate == SHORT);
+    sent_to[site]++;
+    if (fate == SHORT) mine.cut_out++;
+    else mine.groups++, mine.group_bytes += bytes;
 }
 
 static void talk(int pipe_end, void *what, size_t n, int out) {
@@ -200,13 +244,11 @@ static void listen_up(uint64_t sent_to[SITES]) {
 }
 
 static void one_round(enum weather weather) {
-    uint64_t sent_to[SITES] = {0}, k, from = coin(SLOTS);
+    uint64_t sent_to[SITES] = {0}, k;
     if (weather < LAST)
         for (k = 1 + coin(3); k > 0; k--) update(1 + coin(IDS));
-    for (k = 0; k < SLOTS; k++) {
-        uint64_t slot = (from + 7 * k) % SLOTS; /* 7 and the slots have no common factor, so each has its turn */
-        if (slots[slot].length != 0) travel(slot, sent_to, weather);
-    }
+    for (k = 0; k < SITES; k++)
+        if (k != self) send_out(k, weather, sent_to);
     listen_up(sent_to);
 }
 
@@ -219,11 +261,12 @@ static void one_more_update(void) {
 }
 
 static void repair(void) {
-    uint64_t sent_to[SITES] = {0}, site, held = 0;
+    uint64_t sent_to[SITES] = {0}, site;
+    size_t held = 0;
     while (held < CAPACITY && own_table()[2 * held + 1] != 0) held++;
     for (site = 0; site < SITES; site++) {
         if (site == self) continue;
-        tell(site, NO_SERIAL, own_table(), held);
+        tell(site, 0, own_table(), held, 0);
         sent_to[site]++;
     }
     listen_up(sent_to);
@@ -325,30 +368,36 @@ static int judge_lags(void) {
                    to, from, lags[0][from][to], lags[1][from][to], lags[2][from][to], FIRST, accounts[from].ledger.pairs[from][to].next - 1);
             ok = ok && lags[1][from][to] == lags[0][from][to] && lags[2][from][to] == 0 && serials_add_up(from, to);
         }
-    printf("%s\n", ok ? "the repair left every lag, since whole tables have no serial; the next update ended it" : "A LAG IS NOT WHAT IT SHOULD BE");
+    printf("%s\n", ok ? "the repair left every lag, since a whole table is no update and has no serial; the next update ended it" : "A LAG IS NOT WHAT IT SHOULD BE");
     return ok;
 }
 
 static int judge(int differed, int near, int repaired) {
     int site, ok = 1;
-    uint64_t told = 0, heard = 0, stale = 0, listed = 0, held = 0, k;
+    uint64_t told = 0, heard = 0, groups = 0, bytes = 0, cut_out = 0, cut_in = 0, stale = 0, listed = 0, held = 0, k;
     for (site = 0; site < SITES; site++) {
         const account *a = &accounts[site];
         printf("site=%d sent=%" PRIu64 " copied=%" PRIu64 " absorbed=%" PRIu64 " lost=%" PRIu64 " waiting=%" PRIu64 " put_off=%" PRIu64 "\n", site,
                a->ledger.sent, a->ledger.copied, a->ledger.absorbed, a->ledger.lost, a->waiting, a->put_off);
         ok = ok && adds_up(a);
         told += a->told;
-        heard += a->heard - 2; /* two whole tables were heard in the repair */
-        stale += a->stale;     /* how many depends on which of two datagrams came first, so the number is not printed */
+        heard += a->heard;
+        groups += a->groups;
+        bytes += a->group_bytes;
+        cut_out += a->cut_out;
+        cut_in += a->cut_in;
+        stale += a->stale; /* how many depends on which of two datagrams came first, so the number is not printed */
     }
     for (k = 0; k < CAPACITY; k++) {
         held += accounts[0].table[2 * k + 1] != 0;
         listed += accounts[0].table[2 * k + 1] & 1;
     }
-    printf("datagrams: %" PRIu64 " told, %" PRIu64 " heard, %s brought nothing new\n", told, heard, stale > 0 ? "some" : "none");
+    printf("updates: %" PRIu64 " told, %" PRIu64 " heard, in %" PRIu64 " groups of %" PRIu64 " bytes together; %s brought nothing new\n", told, heard,
+           groups, bytes, stale > 0 ? "some" : "none");
+    printf("datagrams cut short: %" PRIu64 ", and refused: %" PRIu64 "\n", cut_out, cut_in);
     printf("before the repair %d ids differed, %d of them at the two sites that were not cut off; after it the tables are %s: held=%" PRIu64
            " shown=%" PRIu64 "\n", differed, near, repaired && tables_equal() ? "equal" : "NOT EQUAL", held, listed);
-    ok = judge_lags() && ok && told == heard && repaired && tables_equal();
+    ok = judge_lags() && ok && told == heard && cut_out == cut_in && repaired && tables_equal();
     printf("%s\n", ok ? "every count adds up" : "SOMETHING DOES NOT ADD UP");
     return ok;
 }
@@ -366,7 +415,7 @@ static void open_sockets(void) {
 }
 
 int main(int n_args, char **args) {
-    uint64_t seed = n_args > 1 ? strtoull(args[1], 0, 10) : 2020;
+    uint64_t seed = n_args > 1 ? strtoull(args[1], 0, 10) : 2022;
     int site, k, ends[2], differed, near, repaired, status, ok;
     open_sockets();
     for (site = 0; site < SITES; site++) {
