@@ -4,7 +4,9 @@
 //
 //   bench [--quick] [--no-paper] [SVG-FILE]
 mod bursts;
+mod codec;
 mod ffi;
+mod groups;
 mod jobs;
 mod links;
 mod maps;
@@ -98,6 +100,7 @@ fn main() {
     }
     let mut rows = Vec::new();
     jobs::all(&mut rows, rounds);
+    groups::all(&mut rows, rounds);
     bursts::all(&mut rows, rounds);
     if with_paper {
         paper::all(&mut rows, rounds.min(5));

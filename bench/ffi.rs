@@ -37,6 +37,10 @@ extern "C" {
                 asks: *const u64, n_asks: usize, answers: *mut u64, n_answers: usize) -> u32;
     fn wg_lag(words: *mut u64, n_words: usize, slots: *mut Parcel, n_slots: usize, ledger: *mut Ledger, sites: u64, capacity: u64,
               from: u64, to: u64, lag: *mut i32) -> u32;
+    fn wg_write_group(entries: *const u64, n_words: usize, out: *mut u8, room: usize, written: *mut usize) -> u32;
+    fn wg_read_group(bytes: *const u8, n: usize, entries: *mut u64, n_words: usize, count: *mut usize) -> u32;
+    fn wg_absorb(words: *mut u64, n_words: usize, slots: *mut Parcel, n_slots: usize, ledger: *mut Ledger, sites: u64, capacity: u64,
+                 site: u64, bytes: *const u8, n: usize, rose: *mut u64) -> u32;
     fn wg_members(table: *const u64, n_words: usize, ids: *const u64, n_ids: usize, answers: *mut u8, n_answers: usize) -> u32;
     fn wg_read_line(line: *const u8, n: usize, area: *mut u8, n_area: usize) -> u32;
     fn wg_write_line(kind: u64, first: u64, second: u64, id: u64, buffer: *mut u8, room: usize) -> usize;
@@ -125,12 +129,35 @@ impl State {
         (refusal, lag)
     }
 
+    // How many lengths rose, or the refusal.
+    pub fn absorb(&mut self, site: u64, bytes: &[u8]) -> Result<u64, u32> {
+        let mut rose = 0;
+        let refusal = unsafe {
+            wg_absorb(self.words.as_mut_ptr(), self.words.len(), self.slots.as_mut_ptr(), self.slots.len(), &mut self.ledger,
+                      self.sites, self.capacity, site, bytes.as_ptr(), bytes.len(), &mut rose)
+        };
+        if refusal == 0 { Ok(rose) } else { Err(refusal) }
+    }
+
     pub fn burst(&mut self, asks: &[u64], answers: &mut [u64]) -> u32 {
         unsafe {
             wg_burst(self.words.as_mut_ptr(), self.words.len(), self.slots.as_mut_ptr(), self.slots.len(), &mut self.ledger,
                      self.sites, self.capacity, asks.as_ptr(), asks.len(), answers.as_mut_ptr(), answers.len())
         }
     }
+}
+
+// How many bytes or entries it wrote, or the refusal.
+pub fn write_group(entries: &[u64], out: &mut [u8]) -> Result<usize, u32> {
+    let mut written = 0;
+    let refusal = unsafe { wg_write_group(entries.as_ptr(), entries.len(), out.as_mut_ptr(), out.len(), &mut written) };
+    if refusal == 0 { Ok(written) } else { Err(refusal) }
+}
+
+pub fn read_group(bytes: &[u8], entries: &mut [u64]) -> Result<usize, u32> {
+    let mut count = 0;
+    let refusal = unsafe { wg_read_group(bytes.as_ptr(), bytes.len(), entries.as_mut_ptr(), entries.len(), &mut count) };
+    if refusal == 0 { Ok(count) } else { Err(refusal) }
 }
 
 pub fn members(table: &[u64], ids: &[u64], answers: &mut [u8]) -> u32 {
