@@ -1,17 +1,15 @@
 -- Numbers at places of some bytes: the readings of `rules`, with the place behind for the rest, and a reading that is under way. Assumes nothing.
-use mathlib.Core.Path.{_≡_, refl, sym, ap, _∙_}
+use mathlib.Core.Path.{_≡_}
 use mathlib.Core.List.{List}
-use Prim.Native.Nat.{ℕ, _+_, _-_, _*_, _≤_}
-use native.Mathlib.Omega.{arith}
+use Prim.Native.Nat.{ℕ, _+_, _*_, _≤_}
 use lib.Dec.{eqb}
-use lib.ListN.{length, drop, length-append, length-drop}
-use lib.Seq.{drop-at, drop-drop}
+use lib.ListN.{length, drop}
 use Rattle.rules.specs.declared.Piece.{Piece}
 use Rattle.rules.specs.declared.Piece.the-variants.{Read, Refused}
 use Rattle.rules.specs.meaning.Text.{Front, front, refused, pick, next}
 use Rattle.rules.specs.meaning.Leb.{leb128, lebValue, of64, readLeb}
-use Rattle.rules.specs.laws.line.Places.{placed, from-none}
-use Rattle.rules.specs.laws.group.Leb.{read-leb, leb-some}
+use Rattle.rules.specs.laws.line.Places.{placed, from-place, from-none}
+use Rattle.rules.specs.laws.group.Leb.{read-leb}
 
 -- the number at a place, and the place behind it
 unfoldable pub lebAt : List ℕ → ℕ → Piece
@@ -32,19 +30,7 @@ restAt bytes at v scale = placed (length bytes) (restOf v scale (drop at bytes))
 -- ---- what a reading at a place says of the bytes from there on
 pub leb-says : (bytes : List ℕ) (at v i : ℕ) → lebAt bytes at ≡ Read v i → (readLeb (drop at bytes) ≡ front v (drop i bytes)) × (i ≤ length bytes)
 unfolding lebAt
-leb-says bytes at v i e = go (readLeb (drop at bytes)) refl e
-  where
-    go : (f : Front) → readLeb (drop at bytes) ≡ f → placed (length bytes) f ≡ Read v i → (f ≡ front v (drop i bytes)) × (i ≤ length bytes)
-    go (front w r) is q =
-        let t = read-leb (drop at bytes) w r is .0 in
-        let n : length bytes - at ≡ length (leb128 w) + length r = sym (length-drop at bytes) ∙ ap length t ∙ length-append (leb128 w) r in
-        let ew : w ≡ v = cc in
-        let ei : length bytes - length r ≡ i = cc in
-        let k : at + length (leb128 w) ≡ i = omega (arith, leb-some w) in
-        let er : r ≡ drop i bytes =
-        sym (drop-at (leb128 w) r (length (leb128 w)) refl) ∙ ap (drop (length (leb128 w))) (sym t) ∙ drop-drop (length (leb128 w)) at bytes ∙ ap (λ (j : ℕ). drop j bytes) k in
-        (ap (λ (x : ℕ). front x r) ew ∙ ap (front v) er, omega arith)
-    go refused is q = absurd (let z : _≡_ {A = ℕ} 0 1 = cc in omega arith)
+leb-says bytes at v i e = from-place bytes at (readLeb (drop at bytes)) (λ w r q. (leb128 w, read-leb (drop at bytes) w r q .0)) v i e
 
 pub leb-says-none : (bytes : List ℕ) (at : ℕ) → lebAt bytes at ≡ Refused → readLeb (drop at bytes) ≡ refused
 unfolding lebAt

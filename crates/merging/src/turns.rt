@@ -1,5 +1,6 @@
 // One turn of the filling walk: the next entry of the merged table from the back.
 use lengths::join;
+use tally::FEW;
 ghost use mathlib.Core.Path.{_≡_};
 ghost use Prim.Native.Nat.{ℕ, _+_, _*_, _-_, _≤_, _<_, max};
 ghost use mathlib.Core.List.{List};
@@ -7,9 +8,6 @@ ghost use mathlib.Core.Bool.{true, cond};
 ghost use lib.ListN.{length as size, getD, set};
 ghost use Rattle.rules.specs.meaning.Table.{idAt, lengthAt};
 ghost use Rattle.merging.specs.Walks.{Joining};
-
-// A source of which there is one entry to so many of the table is one of few entries.
-const FEW: usize = 8;
 
 // What is left to place: entries of the table, entries of the source, and the place from which on the merged table stands.
 pub(crate) struct Left {

@@ -9,7 +9,7 @@ ghost use Rattle.rules.specs.meaning.Table.{SoundTable, held, idAt, heldMerged,
 ghost use Rattle.tally.specs.Joined.{Walk};
 
 // A source of which there is one entry to so many of the table is one of few entries.
-const FEW: usize = 8;
+pub const FEW: usize = 8;
 
 // What a merge comes to: the entries that the table and the source have, those that the table ends with, and the lengths that rise.
 pub struct Tally {

@@ -4,6 +4,7 @@ mod counting;
 mod passes;
 
 pub use answers::told;
+pub use counting::FEW;
 pub use counting::Tally;
 pub use counting::count;
 pub use passes::alike;

@@ -51,7 +51,7 @@ rest-is line at p r e =
       omega arith,
     )
 
-from-place : (line : List ℕ) (at : ℕ) (f : Front) → ((v : ℕ) (r : List ℕ) → f ≡ front v r → (p : List ℕ) × (drop at line ≡ p ++ r)) → (v i : ℕ) → placed (length line) f ≡ Read v i → (f ≡ front v (drop i line)) × (i ≤ length line)
+pub from-place : (line : List ℕ) (at : ℕ) (f : Front) → ((v : ℕ) (r : List ℕ) → f ≡ front v r → (p : List ℕ) × (drop at line ≡ p ++ r)) → (v i : ℕ) → placed (length line) f ≡ Read v i → (f ≡ front v (drop i line)) × (i ≤ length line)
 from-place line at (front w r) says v i e =
     let s = says w r refl in
     let q = rest-is line at (s .0) r (s .1) in
