@@ -23,8 +23,8 @@ fn refuse(number: u32) -> Answer
     }
 }
 
-// 1 or 2; 3 for a site outside; "17, after 7 and before 8", and never 13, since any group's entries fit 128 words; then the entries are merged into the site's table like a table's, which is refused with 8
-// or says how many lengths rose.
+// 1 or 2; 3 for a site outside; "17, after 7 and before 8", and never 13, since any group's entries fit 128 words; then the entries are merged into the site's
+// table like a table's, which is refused with 8 or says how many lengths rose.
 pub(crate) fn absorb_seen(
     words: &mut [u64],
     run: Run,
