@@ -96,11 +96,12 @@ module _ {ws : List ℕ} {to from wide : ℕ} {us : List ℕ} {i j p : ℕ} (f :
   pub own-length : 1 ≤ i → getD us (to + 2 * i - 1) 0 ≡ lengthAt (partAt ws to wide) (i - 1)
   own-length h = let e : to + 2 * i - 1 ≡ to + (2 * (i - 1) + 1) = omega arith in rw e (own-word (2 * (i - 1) + 1) (omega arith))
 
-  pub own-before : 2 ≤ i → getD us (to + 2 * i - 4) 0 ≡ idAt (partAt ws to wide) (i - 2)
-  own-before h = let e : to + 2 * i - 4 ≡ to + 2 * (i - 2) = omega arith in rw e (own-word (2 * (i - 2)) (omega arith))
+  -- the entry before the last one of the first k that are left
+  pub own-before : (k : ℕ) → 2 ≤ k → k ≤ i → getD us (to + 2 * k - 4) 0 ≡ idAt (partAt ws to wide) (k - 2)
+  own-before k h l = let e : to + 2 * k - 4 ≡ to + 2 * (k - 2) = omega arith in rw e (own-word (2 * (k - 2)) (omega arith))
 
-  pub source-before : 2 ≤ j → getD us (from + 2 * j - 4) 0 ≡ idAt (partAt ws from wide) (j - 2)
-  source-before h = let e : from + 2 * j - 4 ≡ from + 2 * (j - 2) = omega arith in rw e (source-word (2 * (j - 2)) (omega arith))
+  pub source-before : (k : ℕ) → 2 ≤ k → k ≤ j → getD us (from + 2 * k - 4) 0 ≡ idAt (partAt ws from wide) (k - 2)
+  source-before k h l = let e : from + 2 * k - 4 ≡ from + 2 * (k - 2) = omega arith in rw e (source-word (2 * (k - 2)) (omega arith))
 
   pub source-id : 1 ≤ j → getD us (from + 2 * j - 2) 0 ≡ idAt (partAt ws from wide) (j - 1)
   source-id h = let e : from + 2 * j - 2 ≡ from + 2 * (j - 1) = omega arith in rw e (source-word (2 * (j - 1)) (omega arith))

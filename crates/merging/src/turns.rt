@@ -42,10 +42,11 @@ pub(crate) fn settle(mine: u64, under: u64, kept: u64, id: u64, next: u64, lengt
 {
     let on = id <= mine;
     let other_on = mine <= id;
-    let most = join(pick(on, kept, 0), pick(other_on, length, 0));
+    let most = join(kept, length);
+    let one = pick(on, kept, length);
     Settled {
         id: pick(on, mine, id),
-        length: most,
+        length: pick(on & other_on, most, one),
         own: on as usize,
         others: other_on as usize,
         mine: pick(on, under, mine),

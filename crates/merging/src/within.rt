@@ -45,9 +45,10 @@ fn four(words: &mut [u64], to: usize, from: usize, left: Left) -> Left
     }
 }
 
-// Eight turns far from both ends. The ids before those compared are read before the comparison ends, so that the next turn does not wait for them.
+// Eight turns far from both ends. The ids before those compared are read a turn before they are chosen or not, and before an entry is put, so that no turn
+// waits for them and no jump fetches them.
 fn eight(words: &mut [u64], to: usize, from: usize, left: Left) -> Left
-    requires { ⌜ (8 < left .own) × (8 < left .others) × (left .own ≤ left .place) ⌝ }
+    requires { ⌜ (9 < left .own) × (9 < left .others) × (left .own ≤ left .place) ⌝ }
     requires { ⌜ (to + 2 * left .place ≤ size (now words)) × (from + 2 * left .others ≤ size (now words)) ⌝ }
     ensures { λ r. ⌜ ((ws : List ℕ) (wide : ℕ) → Filling ws to from wide (now (words .entry)) (left .own) (left .others) (left .place) → Filling ws to from wide (now (words .exit)) (r .own) (r .others) (r .place)) ⌝ }
     ensures { λ r. ⌜ r .place < left .place ⌝ }
@@ -56,21 +57,20 @@ fn eight(words: &mut [u64], to: usize, from: usize, left: Left) -> Left
     let mut others = left.others;
     let mut place = left.place;
     let mut mine = words[to + 2 * own - 2];
+    let mut under = words[to + 2 * own - 4];
     let mut last = words[from + 2 * others - 2];
+    let mut next = words[from + 2 * others - 4];
     let mut k: usize = 0;
     while k < 8 {
-        let now = settle(
-            mine,
-            words[to + 2 * own - 4],
-            words[to + 2 * own - 1],
-            last,
-            words[from + 2 * others - 4],
-            words[from + 2 * others - 1],
-        );
+        let kept = words[to + 2 * own - 1];
+        let length = words[from + 2 * others - 1];
+        let now = settle(mine, under, kept, last, next, length);
         place = place - 1;
-        put(words, to + 2 * place, now.id, now.length);
         own = own - now.own;
         others = others - now.others;
+        under = words[to + 2 * own - 4];
+        next = words[from + 2 * others - 4];
+        put(words, to + 2 * place, now.id, now.length);
         mine = now.mine;
         last = now.last;
         k += 1;
@@ -111,10 +111,10 @@ fn onward(words: &mut [u64], to: usize, end: usize, from: usize, left: Left) -> 
     ensures { λ r. ⌜ ((ws : List ℕ) (wide : ℕ) → end ≡ to + wide → Filling ws to from wide (now (words .entry)) (left .own) (left .others) (left .place) → Filling ws to from wide (now (words .exit)) (r .own) (r .others) (r .place)) ⌝ }
     ensures { λ r. ⌜ r .place < left .place ⌝ }
 {
-    if left.own <= 8 {
+    if left.own <= 9 {
         return one(words, to, end, from, left);
     }
-    if left.others <= 8 {
+    if left.others <= 9 {
         return one(words, to, end, from, left);
     }
     if stretch(words, to, from, left) {

@@ -19,12 +19,13 @@ pub struct Tally {
     pub rises: u64,
 }
 
-// How far the walk has come: the entries passed in the table and in the source, and what those passed come to.
+// How far the walk has come: the entries passed in the table and in the source, what those passed come to, and whether a stretch of equal ids may begin.
 struct At {
     own: usize,
     others: usize,
     held: usize,
     rises: u64,
+    abreast: bool,
 }
 
 // One turn with branches, where an end is near.
@@ -48,6 +49,7 @@ fn turn(table: &[u64], used: usize, entries: &[u64], at: At) -> At
                 others: others,
                 held: at.held,
                 rises: at.rises,
+                abreast: false,
             };
         }
         if mine == id {
@@ -57,6 +59,7 @@ fn turn(table: &[u64], used: usize, entries: &[u64], at: At) -> At
                 others: others + 1,
                 held: at.held,
                 rises: at.rises + more,
+                abreast: false,
             };
         }
     }
@@ -65,6 +68,7 @@ fn turn(table: &[u64], used: usize, entries: &[u64], at: At) -> At
         others: others + 1,
         held: at.held + 1,
         rises: at.rises + 1,
+        abreast: false,
     }
 }
 
@@ -89,11 +93,13 @@ fn four(table: &[u64], entries: &[u64], at: At) -> At
         others: others + 4,
         held: at.held,
         rises: at.rises + first + second + third + fourth,
+        abreast: true,
     }
 }
 
-// Eight turns far from both ends. The ids after those compared are read before the comparison ends, so that the next turn does not wait for them.
-// A turn that passes no entry of the table passes an id that is new to it.
+// Eight turns far from both ends. The ids after those compared are read before the comparison ends, so that the next turn does not wait for them; whether they
+// are the same in all eight turns tells if a stretch of equal ids may begin. It also gives each id that is read a second use: one that is only chosen or not is
+// fetched by a jump on x86-64, and nobody can foresee the choice. A turn that passes no entry of the table passes an id that is new to it.
 fn eight(table: &[u64], entries: &[u64], at: At) -> At
     requires { ⌜ SoundTable (now table) ⌝ }
     requires { ⌜ SoundTable (now entries) ⌝ }
@@ -108,14 +114,18 @@ fn eight(table: &[u64], entries: &[u64], at: At) -> At
     let mut risen = at.rises;
     let mut mine = table[2 * own];
     let mut id = entries[2 * others];
+    let mut abreast = true;
     let mut k: usize = 0;
     while k < 8 {
+        let after = table[2 * own + 2];
+        let next = entries[2 * others + 2];
+        abreast = abreast & (after == next);
         let now = pass(
             mine,
-            table[2 * own + 2],
+            after,
             table[2 * own + 1],
             id,
-            entries[2 * others + 2],
+            next,
             entries[2 * others + 1],
         );
         own = own + now.own;
@@ -131,6 +141,7 @@ fn eight(table: &[u64], entries: &[u64], at: At) -> At
         others: others,
         held: at.held + fresh,
         rises: risen + fresh as u64,
+        abreast: abreast,
     }
 }
 
@@ -146,24 +157,28 @@ fn walk(table: &[u64], used: usize, entries: &[u64], all: usize) -> At
     let mut others = 0;
     let mut total = used;
     let mut risen: u64 = 0;
+    let mut abreast = true;
     while others < all {
         let at = At {
             own: own,
             others: others,
             held: total,
             rises: risen,
+            abreast: abreast,
         };
         let next = onward(table, used, entries, all, at);
         own = next.own;
         others = next.others;
         total = next.held;
         risen = next.rises;
+        abreast = next.abreast;
     }
     At {
         own: own,
         others: others,
         held: total,
         rises: risen,
+        abreast: abreast,
     }
 }
 
@@ -189,8 +204,10 @@ fn onward(table: &[u64], used: usize, entries: &[u64], all: usize, at: At) -> At
     if all <= others + 8 {
         return turn(table, used, entries, at);
     }
-    if alike(table, entries, own, others) {
-        return four(table, entries, at);
+    if at.abreast {
+        if alike(table, entries, own, others) {
+            return four(table, entries, at);
+        }
     }
     eight(table, entries, at)
 }

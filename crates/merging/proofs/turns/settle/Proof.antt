@@ -15,23 +15,23 @@ bit : (b : Bool) → boolByte b ≤ 1
 bit true = omega arith
 bit false = omega arith
 
+join-requires : tie.Need-join-requires
+join-requires c κs = search needs
+
 pick-requires : tie.Need-pick-requires
 pick-requires c κs = search needs
 
 pick-requires-2 : tie.Need-pick-requires-2
 pick-requires-2 c κs = search needs
 
-join-requires : tie.Need-join-requires
-join-requires c κs = search needs
-
 pick-requires-3 : tie.Need-pick-requires-3
 pick-requires-3 c κs = search needs
 
-cast-t12 : tie.Need-cast-t12
-cast-t12 c = search needs
+cast-t14 : tie.Need-cast-t14
+cast-t14 c = search needs
 
-cast-t13 : tie.Need-cast-t13
-cast-t13 c = search needs
+cast-t15 : tie.Need-cast-t15
+cast-t15 c = search needs
 
 pick-requires-4 : tie.Need-pick-requires-4
 pick-requires-4 c κs = search needs
@@ -42,26 +42,26 @@ pick-requires-5 c κs = search needs
 returns : tie.Need-returns
 returns c =
     let a = c .before .before .before .before .before .before .args in
-    let own = c .before .before .before .before .before .pick .ensures in
-    let other = c .before .before .before .before .pick2 .ensures in
-    let most = c .before .before .before .join .ensures in
-    let id = c .before .before .pick3 .ensures in
+    let most = c .before .before .before .before .before .join .ensures in
+    let one = c .before .before .before .before .pick .ensures in
+    let id = c .before .before .before .pick2 .ensures in
+    let length = c .before .before .pick3 .ensures in
     let mine = c .before .pick4 .ensures in
     let last = c .pick5 .ensures in (
       λ h.
           let on : leb (a .id) (a .mine) ≡ true = le-leb (a .id) (a .mine) (omega arith) in
           let off : leb (a .mine) (a .id) ≡ false = lt-leb (a .mine) (a .id) h in
-          (rw on at id, most ∙ (rw (rw on at own, rw off at other) (omega arith)), rw on, rw off, rw on at mine, rw off at last),
+          (rw on at id, (rw (on, off) at length) ∙ (rw on at one), rw on, rw off, rw on at mine, rw off at last),
       (
         λ h.
             let on : leb (a .id) (a .mine) ≡ true = le-leb (a .id) (a .mine) (omega arith) in
             let too : leb (a .mine) (a .id) ≡ true = le-leb (a .mine) (a .id) (omega arith) in
-            ((rw on at id) ∙ h, most ∙ (rw (rw on at own, rw too at other)), rw on, rw too, rw on at mine, rw too at last),
+            ((rw on at id) ∙ h, (rw (on, too) at length) ∙ most, rw on, rw too, rw on at mine, rw too at last),
         (
           λ h.
               let off : leb (a .id) (a .mine) ≡ false = lt-leb (a .id) (a .mine) h in
               let on : leb (a .mine) (a .id) ≡ true = le-leb (a .mine) (a .id) (omega arith) in
-              (rw off at id, most ∙ (rw (rw off at own, rw on at other) (omega arith)), rw off, rw on, rw off at mine, rw on at last),
+              (rw off at id, (rw off at length) ∙ (rw off at one), rw off, rw on, rw off at mine, rw on at last),
           (bit (leb (a .id) (a .mine)), bit (leb (a .mine) (a .id))),
         ),
       ),
@@ -71,12 +71,12 @@ pub settle-spec : {M : Type 1} → statement M
 settle-spec =
     tie.close
     (tie.spec
+    join-requires
     pick-requires
     pick-requires-2
-    join-requires
     pick-requires-3
-    cast-t12
-    cast-t13
+    cast-t14
+    cast-t15
     pick-requires-4
     pick-requires-5
     returns)

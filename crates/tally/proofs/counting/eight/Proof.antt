@@ -10,10 +10,10 @@ use Rattle.tally.proofs.counting.eight.Statement.{statement}
 use Rattle.tally.proofs.counting.eight.Tie as tie
 
 abbrev Inv-loop : tie.InvT-loop
-Inv-loop table entries at start own₀ others₀ risen₀ mine₀ id₀ k₀ own others risen mine id k = Turns table entries (at .held) start (at .others) k own others risen mine id × (k ≤ 8)
+Inv-loop table entries at start own₀ others₀ risen₀ mine₀ id₀ abreast₀ k₀ own others risen mine id abreast k = Turns table entries (at .held) start (at .others) k own others risen mine id × (k ≤ 8)
 
 abbrev μ-loop : tie.MeasureT-loop
-μ-loop table entries at start own₀ others₀ risen₀ mine₀ id₀ k₀ own others risen mine id k = 8 - k
+μ-loop table entries at start own₀ others₀ risen₀ mine₀ id₀ abreast₀ k₀ own others risen mine id abreast k = 8 - k
 
 mul-mine : tie.Need-mul-mine Inv-loop μ-loop
 mul-mine c = search needs
@@ -38,6 +38,30 @@ loop-holds c =
     let a = c .before .before .before .before in
     (turns-none (laid-of M _ (a .pre .0)) (laid-of M _ (a .pre .1 .0)) (a .pre .1 .1 .1), omega arith)
 
+mul-after : tie.Need-mul-after Inv-loop μ-loop
+mul-after c = search needs
+
+add-after : tie.Need-add-after Inv-loop μ-loop
+add-after c = search needs
+
+mul-after-2 : tie.Need-mul-after-2 Inv-loop μ-loop
+mul-after-2 c = search needs
+
+shared-slice-read-after : tie.Need-shared-slice-read-after Inv-loop μ-loop
+shared-slice-read-after c = search needs
+
+mul-next : tie.Need-mul-next Inv-loop μ-loop
+mul-next c = search needs
+
+add-next : tie.Need-add-next Inv-loop μ-loop
+add-next c = search needs
+
+mul-next-2 : tie.Need-mul-next-2 Inv-loop μ-loop
+mul-next-2 c = search needs
+
+shared-slice-read-next : tie.Need-shared-slice-read-next Inv-loop μ-loop
+shared-slice-read-next c = search needs
+
 mul-pass : tie.Need-mul-pass Inv-loop μ-loop
 mul-pass c = search needs
 
@@ -61,30 +85,6 @@ mul-pass-4 c = search needs
 
 shared-slice-read-pass-2 : tie.Need-shared-slice-read-pass-2 Inv-loop μ-loop
 shared-slice-read-pass-2 c = search needs
-
-mul-pass-5 : tie.Need-mul-pass-5 Inv-loop μ-loop
-mul-pass-5 c = search needs
-
-add-pass-3 : tie.Need-add-pass-3 Inv-loop μ-loop
-add-pass-3 c = search needs
-
-mul-pass-6 : tie.Need-mul-pass-6 Inv-loop μ-loop
-mul-pass-6 c = search needs
-
-shared-slice-read-pass-3 : tie.Need-shared-slice-read-pass-3 Inv-loop μ-loop
-shared-slice-read-pass-3 c = search needs
-
-mul-pass-7 : tie.Need-mul-pass-7 Inv-loop μ-loop
-mul-pass-7 c = search needs
-
-add-pass-4 : tie.Need-add-pass-4 Inv-loop μ-loop
-add-pass-4 c = search needs
-
-mul-pass-8 : tie.Need-mul-pass-8 Inv-loop μ-loop
-mul-pass-8 c = search needs
-
-shared-slice-read-pass-4 : tie.Need-shared-slice-read-pass-4 Inv-loop μ-loop
-shared-slice-read-pass-4 c = search needs
 
 pass-requires : tie.Need-pass-requires Inv-loop μ-loop
 pass-requires c κs = search needs
@@ -118,11 +118,11 @@ sub-fresh c = search needs
 sub-fresh-2 : tie.Need-sub-fresh-2 Inv-loop μ-loop
 sub-fresh-2 c = search needs
 
-add-t14 : tie.Need-add-t14 Inv-loop μ-loop
-add-t14 c = search needs
+add-t17 : tie.Need-add-t17 Inv-loop μ-loop
+add-t17 c = search needs
 
-add-t39 : tie.Need-add-t39 Inv-loop μ-loop
-add-t39 c = search needs
+add-t34 : tie.Need-add-t34 Inv-loop μ-loop
+add-t34 c = search needs
 
 returns : tie.Need-returns Inv-loop μ-loop
 returns c =
@@ -143,6 +143,14 @@ eight-spec =
     mul-id-2
     shared-slice-read-id
     loop-holds
+    mul-after
+    add-after
+    mul-after-2
+    shared-slice-read-after
+    mul-next
+    add-next
+    mul-next-2
+    shared-slice-read-next
     mul-pass
     add-pass
     mul-pass-2
@@ -151,14 +159,6 @@ eight-spec =
     add-pass-2
     mul-pass-4
     shared-slice-read-pass-2
-    mul-pass-5
-    add-pass-3
-    mul-pass-6
-    shared-slice-read-pass-3
-    mul-pass-7
-    add-pass-4
-    mul-pass-8
-    shared-slice-read-pass-4
     pass-requires
     add-own
     add-others
@@ -168,6 +168,6 @@ eight-spec =
     loop-again
     sub-fresh
     sub-fresh-2
-    add-t14
-    add-t39
+    add-t17
+    add-t34
     returns)

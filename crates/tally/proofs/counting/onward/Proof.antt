@@ -37,19 +37,19 @@ alike-requires c κs = search needs
 
 four-requires : tie.Need-four-requires
 four-requires c κs =
-    let a = c .before .before .before .before .before .before .before in
+    let a = c .before .before .before .before .before .before .before .before in
     let t = a .args .table .now in
     let s = a .args .entries .now in
     let i = a .args .at .own in
     let j = a .args .at .others in
-    (a .pre .0, (a .pre .1 .0, (omega arith, (four-alike (idAt t i) (idAt t (i + 1)) (idAt t (i + 2)) (idAt t (i + 3)) (idAt s j) (idAt s (j + 1)) (idAt s (j + 2)) (idAt s (j + 3)) (c .before .alike .ensures) (c .if4 .taken), a .pre .1 .1 .1 .1))))
+    (a .pre .0, (a .pre .1 .0, (omega arith, (four-alike (idAt t i) (idAt t (i + 1)) (idAt t (i + 2)) (idAt t (i + 3)) (idAt s j) (idAt s (j + 1)) (idAt s (j + 2)) (idAt s (j + 3)) (c .before .alike .ensures) (c .if5 .taken), a .pre .1 .1 .1 .1))))
 
 returns-4 : tie.Need-returns-4
 returns-4 c = search needs
 
 eight-requires : tie.Need-eight-requires
 eight-requires c κs =
-    let a = c .before .before .before .before .before .before .before in
+    let a = c .before .before .before .before .before .before in
     (a .pre .0, (a .pre .1 .0, (omega arith, a .pre .1 .1 .1 .1)))
 
 returns-5 : tie.Need-returns-5

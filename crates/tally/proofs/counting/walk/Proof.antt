@@ -10,10 +10,10 @@ use Rattle.tally.proofs.counting.walk.Statement.{statement}
 use Rattle.tally.proofs.counting.walk.Tie as tie
 
 abbrev Inv-loop : tie.InvT-loop
-Inv-loop table used entries all own₀ others₀ total₀ risen₀ own others total risen = Walk table entries total risen own others
+Inv-loop table used entries all own₀ others₀ total₀ risen₀ abreast₀ own others total risen abreast = Walk table entries total risen own others
 
 abbrev μ-loop : tie.MeasureT-loop
-μ-loop table used entries all own₀ others₀ total₀ risen₀ own others total risen = (used - own) + (all - others)
+μ-loop table used entries all own₀ others₀ total₀ risen₀ abreast₀ own others total risen abreast = (used - own) + (all - others)
 
 loop-holds : tie.Need-loop-holds Inv-loop μ-loop
 loop-holds c =
