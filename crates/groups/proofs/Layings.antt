@@ -10,10 +10,12 @@ use lib.Seq.{getD-drop, drop-drop}
 use Rattle.rules.specs.meaning.Leb.{leb128}
 use Rattle.rules.specs.meaning.Groups.{mostEntries, risingFrom, isGroup, fieldsFrom, groupBytes}
 use Rattle.rules.specs.meaning.Put.{put}
-use Rattle.rules.specs.laws.Put.{put-nil, put-length, put-put}
+use Rattle.rules.specs.laws.Put.{put-nil, put-put}
 use Rattle.rules.specs.laws.table.View.{parts}
 use Rattle.rules.specs.laws.group.Groups.{Rising, done, entry, see-rising}
+use Rattle.rules.specs.laws.group.Leb.{leb-some}
 use Rattle.groups.specs.Writing.{IsGroup}
+use Rattle.groups.proofs.Gaps.{Led}
 
 -- ---- an entry at a place
 -- the bytes of the id, those of the length, and those of the entries behind
@@ -24,8 +26,8 @@ abbrev pub lengthBytes : List ℕ → ℕ → List ℕ
 lengthBytes es i = leb128 (getD es (i + 1) 0 - 1)
 
 -- the code takes the two parts of the least id away one by one
-pub gap-is : (e before step : ℕ) → leb128 (e - before - step) ≡ leb128 (e - (before + step))
-gap-is e before step = ap leb128 (let k : e - before - step ≡ e - (before + step) = omega arith in k)
+pub gap-is : (e before step : ℕ) → e - before - step ≡ e - (before + step)
+gap-is e before step = omega arith
 
 pub record Entry (es : List ℕ) (lo i : ℕ) : Type 0 where
   pub two : i + 1 < length es
@@ -91,17 +93,16 @@ module _ (es end : List ℕ) where
   Laid out place lo i = put out place (fieldsFrom lo (drop i es)) ≡ end
 
   pub laid-more : (out out₁ out₂ : List ℕ) (place middle next lo i : ℕ) → Laying es place lo i → i < length es → length (groupBytes es) ≤ length out
-      → middle ≡ place + length (idBytes es lo i) → out₁ ≡ put out place (idBytes es lo i)
+      → Led out place (getD es i 0 - lo) middle out₁ → length out₁ ≡ length out
       → next ≡ middle + length (lengthBytes es i) → out₂ ≡ put out₁ middle (lengthBytes es i)
       → Laid out place lo i → Laid out₂ next (getD es i 0 + 1) (i + 2)
-  laid-more out out₁ out₂ place middle next lo i l h room em e₁ en e₂ inv =
+  laid-more out out₁ out₂ place middle next lo i l h room led long en e₂ inv =
       let a = idBytes es lo i in
       let b = lengthBytes es i in
       let rest = fieldsFrom (suc (getD es i 0)) (drop (i + 2) es) in
       let n = laying-room es place lo i l h in
-      let long : length out₁ ≡ length out = rw e₁ (put-length out place a (omega arith)) in
-      let second : put out₂ next rest ≡ put out₁ middle (b ++ rest) = rw (e₂, en) (put-put out₁ middle b rest (omega arith)) in
-      let first : put out₁ middle (b ++ rest) ≡ put out place (a ++ (b ++ rest)) = rw (e₁, em) (put-put out place a (b ++ rest) (omega arith)) in
+      let second : put out₂ next rest ≡ put out₁ middle (b ++ rest) = rw (e₂, en) (put-put out₁ middle b rest (omega (arith, led .0))) in
+      let first : put out₁ middle (b ++ rest) ≡ put out place (a ++ (b ++ rest)) = led .1 (b ++ rest) (omega (arith, length-append b rest, leb-some (getD es (i + 1) 0 - 1))) in
       rw add-one (second ∙ first ∙ ap (put out place) (sym (laying-entry es place lo i l h .bytes)) ∙ inv)
 
   pub laid-end : (out : List ℕ) (place lo i : ℕ) → length es ≤ i → Laid out place lo i → out ≡ end

@@ -4,10 +4,12 @@ use rules::GROUP_BESIDES;
 use rules::GROUP_BY_WORD;
 use rules::Grouped;
 ghost use mathlib.Core.Path.{_≡_};
-ghost use Prim.Native.Nat.{_≤_};
+ghost use mathlib.Core.List.{List, _++_};
+ghost use Prim.Native.Nat.{ℕ, _+_, _≤_, _<_};
 ghost use lib.Dec.{leb};
 ghost use lib.ListN.{length};
 ghost use Rattle.rules.specs.meaning.Groups.{groupBytes, Written};
+ghost use Rattle.rules.specs.meaning.Leb.{leb128};
 ghost use Rattle.rules.specs.meaning.Put.{put};
 ghost use Rattle.groups.specs.Writing.{IsGroup};
 
@@ -30,6 +32,21 @@ fn group_len(entries: &[u64]) -> usize
     total
 }
 
+// Writes a number that something is to be written behind, and answers the place behind it. Ids lie near each other as often as not, and whether a gap takes one
+// byte or two nobody can foresee: then both are written, and the one too many is written over by what comes behind. No jump depends on which it was.
+fn write_gap(out: &mut [u8], place: usize, n: u64) -> usize
+    requires { ⌜ place + length (leb128 n) < length (now out) ⌝ }
+    ensures { λ r. ⌜ (r ≡ place + length (leb128 n)) × ((more : List ℕ) → 1 ≤ length more → put (now (out .exit)) r more ≡ put (now (out .entry)) place (leb128 n ++ more)) ⌝ }
+{
+    if n < 16384 {
+        let two = n >= 128;
+        out[place] = (n % 128) as u8 + 128 * (two as u8);
+        out[place + 1] = (n / 128) as u8;
+        return place + 1 + (two as usize);
+    }
+    leb::write_leb(out, place, n)
+}
+
 // Writes a group at the front of a buffer that has room for it, and answers how many bytes it has. The least that an id could be is kept as the id before and
 // a step, 0 for the first entry and 1 for the others: behind the largest id their sum would leave 64 bits.
 fn lay(entries: &[u64], out: &mut [u8]) -> usize
@@ -42,7 +59,7 @@ fn lay(entries: &[u64], out: &mut [u8]) -> usize
     let mut i = 0;
     while i < entries.len() {
         let id = entries[i];
-        let middle = leb::write_leb(out, place, id - before - step);
+        let middle = write_gap(out, place, id - before - step);
         place = leb::write_leb(out, middle, entries[i + 1] - 1);
         before = id;
         step = 1;

@@ -1,10 +1,11 @@
 -- `groups::write::group_len`: kept by the loop is `Laying`. Assumes nothing.
-use Prim.Native.Nat.{_+_, _-_, _≤_}
+use Prim.Native.Nat.{ℕ, _+_, _-_, _≤_}
 use mathlib.Core.Path.{_≡_, ap, _∙_}
 use native.Mathlib.Omega.{arith}
 use borrow.Author.Needs.{needs}
 use denote.Ref.{now}
 use lib.ListN.{length}
+use Rattle.rules.specs.meaning.Leb.{leb128}
 use Rattle.rules.specs.laws.group.Groups.{never-past-961}
 use Rattle.groups.proofs.Layings.{Laying, Entry, gap-is, idBytes, lengthBytes, laying-none, laying-entry, laying-room, laying-more, laying-end}
 use Rattle.groups.proofs.write.group_len.Statement.{statement}
@@ -24,7 +25,7 @@ here c = laying-entry _ _ _ _ (c .before .loop .inv) (c .loop-test .taken)
 id-bytes : (c : tie.After-width2 Inv-loop μ-loop) →
     let a = c .before .before .before in
     c .width2 .result ≡ length (idBytes (now (a .before .before .before .args .entries)) (a .loop .before + a .loop .step) (a .loop .i))
-id-bytes c = c .width2 .ensures .0 ∙ ap length (gap-is _ (c .before .before .before .loop .before) (c .before .before .before .loop .step))
+id-bytes c = c .width2 .ensures .0 ∙ ap (λ (k : ℕ). length (leb128 k)) (gap-is _ (c .before .before .before .loop .before) (c .before .before .before .loop .step))
 
 -- what is measured is part of the group's bytes, and these are few
 few : (c : tie.After-width2 Inv-loop μ-loop) →

@@ -6,7 +6,9 @@ use denote.Ref.{now}
 use lib.ListN.{length, getD}
 use Rattle.rules.specs.meaning.Groups.{fieldsFrom, groupBytes}
 use Rattle.rules.specs.meaning.Put.{put}
-use Rattle.groups.proofs.Layings.{Laying, Laid, Entry, gap-is, idBytes, laying-none, laying-entry, laying-room, laying-more, laying-end, laid-more, laid-end, laid-group, count-first}
+use Rattle.rules.specs.laws.group.Leb.{leb-some}
+use Rattle.groups.proofs.Gaps.{Led}
+use Rattle.groups.proofs.Layings.{Laying, Laid, Entry, gap-is, laying-none, laying-entry, laying-room, laying-more, laying-end, laid-more, laid-end, laid-group, count-first}
 use Rattle.groups.proofs.write.lay.Statement.{statement}
 use Rattle.groups.proofs.write.lay.Tie as tie
 
@@ -30,14 +32,13 @@ room a =
     omega (arith, w .before .before .before .before .pre .1, w .write-leb .kept .0, a .loop .inv .2)
 
 -- the id is written, as the code has the number
-id-written : (c : tie.After-write-leb2 Inv-loop μ-loop) →
+id-written : (c : tie.After-write-gap Inv-loop μ-loop) →
     let a = c .before .before .before .before in
-    let bytes = idBytes (now (a .before .before .before .before .before .before .before .args .entries)) (a .loop .before + a .loop .step) (a .loop .i) in
-    (c .write-leb2 .result ≡ a .loop .place + length bytes) × (c .write-leb2 .last .0 ≡ put (a .loop .out) (a .loop .place) bytes)
+    let es = now (a .before .before .before .before .before .before .before .args .entries) in
+    Led (a .loop .out) (a .loop .place) (getD es (a .loop .i) 0 - (a .loop .before + a .loop .step)) (c .write-gap .result) (c .write-gap .last .0)
 id-written c =
     let l = c .before .before .before .before .loop in
-    let e = c .write-leb2 .ensures in
-    (e .0 ∙ ap (λ t. l .place + length t) (gap-is _ (l .before) (l .step)), e .1 ∙ ap (put (l .out) (l .place)) (gap-is _ (l .before) (l .step)))
+    rw (← gap-is _ (l .before) (l .step)) (c .write-gap .ensures)
 
 write-leb-requires : tie.Need-write-leb-requires Inv-loop μ-loop
 write-leb-requires c κs = let s = c .before .before .before in omega (arith, s .pre .1, count-first (now (s .args .entries)))
@@ -53,17 +54,18 @@ mul-id c = omega arith
 shared-slice-read-id : tie.Need-shared-slice-read-id Inv-loop μ-loop
 shared-slice-read-id c = omega arith
 
-sub-write-leb : tie.Need-sub-write-leb Inv-loop μ-loop
-sub-write-leb c = omega (arith, here (c .before .before) .low)
+sub-write-gap : tie.Need-sub-write-gap Inv-loop μ-loop
+sub-write-gap c = omega (arith, here (c .before .before) .low)
 
-sub-write-leb-2 : tie.Need-sub-write-leb-2 Inv-loop μ-loop
-sub-write-leb-2 c = omega (arith, here (c .before .before) .low)
+sub-write-gap-2 : tie.Need-sub-write-gap-2 Inv-loop μ-loop
+sub-write-gap-2 c = omega (arith, here (c .before .before) .low)
 
-write-leb-requires-2 : tie.Need-write-leb-requires-2 Inv-loop μ-loop
-write-leb-requires-2 c κs =
+write-gap-requires : tie.Need-write-gap-requires Inv-loop μ-loop
+write-gap-requires c κs =
     let i = c .before .before in
     let l = i .before .loop in
-    omega (arith, room (i .before), laying-room _ _ _ _ (l .inv .0) (i .loop-test .taken), ap length (gap-is (getD (now (i .before .before .before .before .before .before .before .before .args .entries)) (l .i) 0) (l .before) (l .step)))
+    let es = now (i .before .before .before .before .before .before .before .before .args .entries) in
+    rw (gap-is (getD es (l .i) 0) (l .before) (l .step)) (omega (arith, room (i .before), laying-room _ _ _ _ (l .inv .0) (i .loop-test .taken), leb-some (getD es (l .i + 1) 0 - 1)))
 
 add-write-leb : tie.Need-add-write-leb Inv-loop μ-loop
 add-write-leb c = omega arith
@@ -74,14 +76,14 @@ mul-write-leb c = omega (arith, here (c .before .before .before .before .before 
 shared-slice-read-write-leb : tie.Need-shared-slice-read-write-leb Inv-loop μ-loop
 shared-slice-read-write-leb c = here (c .before .before .before .before .before .before .before) .two
 
-sub-write-leb-3 : tie.Need-sub-write-leb-3 Inv-loop μ-loop
-sub-write-leb-3 c = here (c .before .before .before .before .before .before .before) .some
+sub-write-leb : tie.Need-sub-write-leb Inv-loop μ-loop
+sub-write-leb c = here (c .before .before .before .before .before .before .before) .some
 
-write-leb-requires-3 : tie.Need-write-leb-requires-3 Inv-loop μ-loop
-write-leb-requires-3 c κs =
+write-leb-requires-2 : tie.Need-write-leb-requires-2 Inv-loop μ-loop
+write-leb-requires-2 c κs =
     let w = c .before .before .before .before in
     let i = w .before .before .before in
-    omega (arith, room (i .before), laying-room _ _ _ _ (i .before .loop .inv .0) (i .loop-test .taken), id-written w .0, w .write-leb2 .kept .0)
+    omega (arith, room (i .before), laying-room _ _ _ _ (i .before .loop .inv .0) (i .loop-test .taken), id-written w .0, w .write-gap .kept .0)
 
 add-i : tie.Need-add-i Inv-loop μ-loop
 add-i c = omega (arith, here (c .before .before .before .before .before .before .before .before .before .before) .two)
@@ -91,15 +93,15 @@ loop-less c = omega (arith, here (c .before .before .before .before .before .bef
 
 loop-again : tie.Need-loop-again Inv-loop μ-loop
 loop-again c =
-    let v = c .before .before .write-leb3 in
+    let v = c .before .before .write-leb2 in
     let w = c .before .before .before .before .before .before .before in
     let i = w .before .before .before in
     let l = i .before .loop in
     let d = id-written w in
     let g = v .ensures in (
       laying-more _ _ _ _ (l .inv .0) _ (i .loop-test .taken) (omega (arith, d .0, g .0)),
-      laid-more _ _ (l .out) _ _ (l .place) _ _ _ (l .i) (l .inv .0) (i .loop-test .taken) (room (i .before)) (d .0) (d .1) (g .0) (g .1) (l .inv .1),
-      v .kept .0 ∙ w .write-leb2 .kept .0 ∙ l .inv .2,
+      laid-more _ _ (l .out) _ _ (l .place) _ _ _ (l .i) (l .inv .0) (i .loop-test .taken) (room (i .before)) d (w .write-gap .kept .0) (g .0) (g .1) (l .inv .1),
+      v .kept .0 ∙ w .write-gap .kept .0 ∙ l .inv .2,
     )
 
 same-length : tie.Need-same-length Inv-loop μ-loop
@@ -123,14 +125,14 @@ lay-spec =
     loop-holds
     mul-id
     shared-slice-read-id
-    sub-write-leb
-    sub-write-leb-2
-    write-leb-requires-2
+    sub-write-gap
+    sub-write-gap-2
+    write-gap-requires
     add-write-leb
     mul-write-leb
     shared-slice-read-write-leb
-    sub-write-leb-3
-    write-leb-requires-3
+    sub-write-leb
+    write-leb-requires-2
     add-i
     loop-less
     loop-again
