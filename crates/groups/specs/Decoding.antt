@@ -4,7 +4,7 @@ use mathlib.Core.Bool.{Bool, true, false}
 use mathlib.Core.List.{List}
 use Prim.Native.Nat.{ℕ, zero, suc, _*_, _≤_}
 use lib.ListN.{length, take, drop}
-use Rattle.rules.specs.meaning.Groups.{Group, group, noGroup, withEntry, entriesFrom}
+use Rattle.rules.specs.meaning.Groups.{mostEntries, Group, group, noGroup, withEntry, entriesFrom}
 use Rattle.groups.specs.declared.entry.Entry.{Entry}
 use Rattle.groups.specs.declared.entry.Entry.the-variants.{Taken, NoEntry}
 use Rattle.rules.specs.declared.Piece.{Piece}
@@ -41,5 +41,5 @@ Lays g count true words = g ≡ group (take (2 * count) words)
 Lays g count false words = g ≡ noGroup
 
 abbrev pub Decodes : Group → Decoded → List ℕ → Type 0
-Decodes g (Entries n) words = (g ≡ group (take (2 * n) words)) × (n ≤ 64)
+Decodes g (Entries n) words = (g ≡ group (take (2 * n) words)) × (n ≤ mostEntries)
 Decodes g Nothing words = g ≡ noGroup

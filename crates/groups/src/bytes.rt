@@ -2,9 +2,10 @@
 // no group, what those words then have is of no use to anybody. So they are not the caller's.
 use crate::entry::Entry;
 use crate::entry::read_entry;
+use rules::GROUP_ENTRIES;
 ghost use Prim.Native.Nat.{_*_, _≤_};
 ghost use lib.ListN.{length, drop};
-ghost use Rattle.rules.specs.meaning.Groups.{entriesFrom, groupOf};
+ghost use Rattle.rules.specs.meaning.Groups.{mostEntries, entriesFrom, groupOf};
 ghost use Rattle.groups.specs.Decoding.{Lays, Decodes};
 
 // What bytes turned out to be: a group of so many entries, or none.
@@ -42,14 +43,14 @@ fn lay_entries(bytes: &[u8], at: usize, count: usize, words: &mut [u64]) -> bool
 // The group that bytes form, if they form one: "bytes left over" are no group, nor is a count above 64. Every count up to 64 is its own one byte, and no number
 // that begins with a larger byte is below 65.
 pub(crate) fn decode(bytes: &[u8], words: &mut [u64]) -> Decoded
-    requires { ⌜ 128 ≤ length (now words) ⌝ }
+    requires { ⌜ 2 * mostEntries ≤ length (now words) ⌝ }
     ensures { λ r. ⌜ Decodes (groupOf (now (bytes .entry))) r (now (words .exit)) ⌝ }
 {
     if bytes.len() == 0 {
         return Decoded::Nothing;
     }
     let count = bytes[0];
-    if 64 < count {
+    if (GROUP_ENTRIES as u8) < count {
         return Decoded::Nothing;
     }
     if lay_entries(bytes, 1, count as usize, words) {

@@ -21,7 +21,7 @@ use Rattle.rules.specs.meaning.Events.{absorbTests, absorbRefusal}
 use Rattle.rules.specs.laws.Put.{put-length, put-front}
 use Rattle.rules.specs.laws.group.Groups.{entries-even, entries-few}
 use Rattle.judge.specs.Judged.{judgement}
-use Rattle.judge.proofs.Judging.{judged-before, judged-ready}
+use Rattle.judge.proofs.Judging.{judged-first, judged-ready}
 use Rattle.steps.specs.Verdicts.{Ready}
 use Rattle.steps.proofs.Tables.{kept}
 use Rattle.intake.specs.Values.{refusedAnswer, answerSeen, wordsSeen}
@@ -68,7 +68,7 @@ module _ (bytes before after : List ℕ) (r : Grouped) (size : length before ≡
 module _ (run : Run) (ws : List ℕ) (k : ℕ) (bytes : List ℕ) (si : Sight) where
   by-judge : absorbRefusal run ws k bytes si ≡ cond (eqb (judgement run ws si) 0) (firstGiven (absorbTests run ws k bytes)) (judgement run ws si)
   unfolding absorbRefusal
-  by-judge = judged-before run ws si (absorbTests run ws k bytes)
+  by-judge = judged-first run ws si (absorbTests run ws k bytes)
 
   -- what the contract says of an answer, and of the words that are left
   abbrev Said : Answer → List ℕ → Type 0

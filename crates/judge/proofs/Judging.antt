@@ -56,9 +56,9 @@ two-first false true ts = refl
 two-first false false ts = refl
 
 module _ (run : Run) (ws : List ℕ) (si : Sight) where
-  pub judged-before : (ts : List Test) → firstGiven (judgeTests run ws si ++ ts) ≡ cond (eqb (judgement run ws si) 0) (firstGiven ts) (judgement run ws si)
+  pub judged-first : (ts : List Test) → firstGiven (judgeTests run ws si ++ ts) ≡ cond (eqb (judgement run ws si) 0) (firstGiven ts) (judgement run ws si)
   unfolding judgement
-  judged-before ts = two-first (not (sizesRight run (length ws) (si .count))) (not (allSound run ws si)) ts
+  judged-first ts = two-first (not (sizesRight run (length ws) (si .count))) (not (allSound run ws si)) ts
 
   -- what they let through has right sizes and sound tables
   pub judged-ready : judgement run ws si ≡ 0 → Sized run (length ws) × (tablesSound M (width run) (run .sites) ws ≡ true)

@@ -12,13 +12,13 @@ use Rattle.rules.specs.meaning.Refusals.{firstGiven}
 use Rattle.rules.specs.meaning.Lags.{lagTests, lagGiven, lagIn, lastSent}
 use Rattle.rules.specs.meaning.Serials.{lagOf}
 use Rattle.judge.specs.Judged.{judgement}
-use Rattle.judge.proofs.Judging.{judged-before}
+use Rattle.judge.proofs.Judging.{judged-first}
 use Rattle.sites.specs.Values.{refusedLag}
 
 module _ (run : Run) (ws : List ℕ) (si : Sight) (f t : ℕ) where
   by-judge : lagIn run ws si f t ≡ lagGiven (cond (eqb (judgement run ws si) 0) (firstGiven (lagTests run (si .books .pair) f t)) (judgement run ws si)) (si .books .pair)
   unfolding lagIn
-  by-judge = ap (λ (r : ℕ). lagGiven r (si .books .pair)) (judged-before run ws si (lagTests run (si .books .pair) f t))
+  by-judge = ap (λ (r : ℕ). lagGiven r (si .books .pair)) (judged-first run ws si (lagTests run (si .books .pair) f t))
 
   -- an answer with a refusal
   as-refused : (r : ℕ) → (r ≡ 0 → ⊥) → refusedLag r ≡ lagGiven r (si .books .pair)

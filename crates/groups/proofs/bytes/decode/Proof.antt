@@ -13,6 +13,9 @@ returns c = no-count _ (c .if1 .taken)
 shared-slice-read-count : tie.Need-shared-slice-read-count
 shared-slice-read-count c = search needs
 
+cast-if2 : tie.Need-cast-if2
+cast-if2 c = search needs
+
 returns-2 : tie.Need-returns-2
 returns-2 c =
     let s = c .before .before .before .before .before in
@@ -54,4 +57,15 @@ returns-4 c =
 pub decode-spec : {M : Type 1} → statement M
 decode-spec =
     tie.close
-    (tie.spec returns shared-slice-read-count returns-2 cast-lay-entries lay-entries-requires cast-t11 same-length returns-3 same-length-2 returns-4)
+    (tie.spec
+    returns
+    shared-slice-read-count
+    cast-if2
+    returns-2
+    cast-lay-entries
+    lay-entries-requires
+    cast-t11
+    same-length
+    returns-3
+    same-length-2
+    returns-4)
