@@ -6,7 +6,7 @@ use std::hint::black_box;
 
 const ENTRIES: usize = 64;
 const INPUTS: usize = 8;
-const GROUPS: usize = 64; // of each input, since one is over sooner than a clock can tell
+const GROUPS: usize = 512; // of each input: one is over sooner than a clock can tell, and the jumps of 4,096 a predictor does not know by heart
 
 #[derive(Clone, Copy)]
 enum Gaps {

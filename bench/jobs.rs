@@ -132,10 +132,11 @@ fn two_tables(r: &mut Random, capacity: usize, shares: Shares) -> State {
     s
 }
 
-// Site 1's table into site 0's. `per` is how many units one merge does.
+// Site 1's table into site 0's. `per` is how many units one merge does. The shorter the tables, the more of them take turns: of 16 merges of 256 entries a
+// predictor knows every jump by heart after a few rounds.
 fn merging(rows: &mut Vec<Row>, rounds: usize, job: &str, unit: &'static str, per: f64, capacity: usize, shares: Shares) {
     let mut r = Random(3);
-    let before: Vec<State> = (0..16).map(|_| two_tables(&mut r, capacity, shares)).collect();
+    let before: Vec<State> = (0..16 * 2048 / capacity).map(|_| two_tables(&mut r, capacity, shares)).collect();
     let plain_merge = |s: &mut State| {
         let (target, source) = s.words.split_at_mut(2 * capacity);
         plain::merge(target, source)

@@ -33,7 +33,8 @@ fn pick(test: bool, one: u64, other: u64) -> u64
     if test { one } else { other }
 }
 
-// The larger id is placed; of a common one the larger length. As in `pass`, no branch depends on which it is.
+// The larger id is placed; of a common one the larger length. As in `pass`, no branch depends on which it is. The last id is kept, not replaced, by its test: the
+// other way round the compiler for x86-64 made a jump of it.
 pub(crate) fn settle(mine: u64, under: u64, kept: u64, id: u64, next: u64, length: u64) -> Settled
     ensures { λ r. ⌜ (id < mine → (r .id ≡ mine) × (r .length ≡ kept) × (r .own ≡ 1) × (r .others ≡ 0) × (r .mine ≡ under) × (r .last ≡ id)) ⌝ }
     ensures { λ r. ⌜ (mine ≡ id → (r .id ≡ id) × (r .length ≡ max kept length) × (r .own ≡ 1) × (r .others ≡ 1) × (r .mine ≡ under) × (r .last ≡ next)) ⌝ }
@@ -50,7 +51,7 @@ pub(crate) fn settle(mine: u64, under: u64, kept: u64, id: u64, next: u64, lengt
         own: on as usize,
         others: other_on as usize,
         mine: pick(on, under, mine),
-        last: pick(other_on, next, id),
+        last: pick(id < mine, id, next),
     }
 }
 

@@ -7,7 +7,7 @@ use mathlib.Core.Path.{_≡_, _∙_}
 use lib.Dec.{leb}
 use mir.Val.{boolByte}
 use borrow.Author.Needs.{needs}
-use borrow.Author.Tests.{le-leb, lt-leb}
+use borrow.Author.Tests.{le-leb, lt-leb, lt-ltb, le-ltb}
 use Rattle.merging.proofs.turns.settle.Statement.{statement}
 use Rattle.merging.proofs.turns.settle.Tie as tie
 
@@ -51,17 +51,17 @@ returns c =
       λ h.
           let on : leb (a .id) (a .mine) ≡ true = le-leb (a .id) (a .mine) (omega arith) in
           let off : leb (a .mine) (a .id) ≡ false = lt-leb (a .mine) (a .id) h in
-          (rw on at id, (rw (on, off) at length) ∙ (rw on at one), rw on, rw off, rw on at mine, rw off at last),
+          (rw on at id, (rw (on, off) at length) ∙ (rw on at one), rw on, rw off, rw on at mine, rw (lt-ltb (a .id) (a .mine) h) at last),
       (
         λ h.
             let on : leb (a .id) (a .mine) ≡ true = le-leb (a .id) (a .mine) (omega arith) in
             let too : leb (a .mine) (a .id) ≡ true = le-leb (a .mine) (a .id) (omega arith) in
-            ((rw on at id) ∙ h, (rw (on, too) at length) ∙ most, rw on, rw too, rw on at mine, rw too at last),
+            ((rw on at id) ∙ h, (rw (on, too) at length) ∙ most, rw on, rw too, rw on at mine, rw (le-ltb (a .id) (a .mine) (omega arith)) at last),
         (
           λ h.
               let off : leb (a .id) (a .mine) ≡ false = lt-leb (a .id) (a .mine) h in
               let on : leb (a .mine) (a .id) ≡ true = le-leb (a .mine) (a .id) (omega arith) in
-              (rw off at id, (rw off at length) ∙ (rw off at one), rw off, rw on, rw off at mine, rw on at last),
+              (rw off at id, (rw off at length) ∙ (rw off at one), rw off, rw on, rw off at mine, rw (le-ltb (a .id) (a .mine) (omega arith)) at last),
           (bit (leb (a .id) (a .mine)), bit (leb (a .mine) (a .id))),
         ),
       ),
