@@ -1,7 +1,9 @@
 // Entries joined into a table from a slice of their own.
 use crate::turns::Left;
+use crate::turns::slide;
 use crate::turns::turn;
 use rules::Answer;
+use tally::FEW;
 use tally::count;
 use tally::told;
 ghost use mathlib.Core.Path.{_≡_};
@@ -11,7 +13,7 @@ ghost use Rattle.rules.specs.meaning.Operations.{mergeAnswer, mergeTable};
 ghost use Rattle.merging.specs.Walks.{Joining};
 
 // The table is filled from the back until no entry is left to join in: what is left of the table then stands in its place.
-fn fill(table: &mut [u64], entries: &[u64], left: Left)
+fn fill_evenly(table: &mut [u64], entries: &[u64], left: Left)
     requires { ⌜ Joining (now table) (now entries) (λ q. getD (now table) q 0) (left .own) (left .others) (left .place) ⌝ }
     ensures { λ _. ⌜ now (table .exit) ≡ merged (now (table .entry)) (now (entries .entry)) ⌝ }
 {
@@ -33,6 +35,42 @@ fn fill(table: &mut [u64], entries: &[u64], left: Left)
         own = next.own;
         others = next.others;
         place = next.place;
+    }
+}
+
+// The same for few entries in a long table: all that is above the next one moves on first, which is foreseen.
+fn fill_sparsely(table: &mut [u64], entries: &[u64], left: Left)
+    requires { ⌜ Joining (now table) (now entries) (λ q. getD (now table) q 0) (left .own) (left .others) (left .place) ⌝ }
+    ensures { λ _. ⌜ now (table .exit) ≡ merged (now (table .entry)) (now (entries .entry)) ⌝ }
+{
+    let mut own = left.own;
+    let mut few = left.others;
+    let mut place = left.place;
+    while 0 < few {
+        let before = Left {
+            own: own,
+            others: few,
+            place: place,
+        };
+        let id = entries[2 * few - 2];
+        let length = entries[2 * few - 1];
+        let there = slide(table, before, id);
+        let next = turn(table, there, id, length);
+        own = next.own;
+        few = next.others;
+        place = next.place;
+    }
+}
+
+// Which of the two it is, is asked once.
+fn fill(table: &mut [u64], entries: &[u64], left: Left)
+    requires { ⌜ Joining (now table) (now entries) (λ q. getD (now table) q 0) (left .own) (left .others) (left .place) ⌝ }
+    ensures { λ _. ⌜ now (table .exit) ≡ merged (now (table .entry)) (now (entries .entry)) ⌝ }
+{
+    if left.others <= left.own / FEW {
+        fill_sparsely(table, entries, left);
+    } else {
+        fill_evenly(table, entries, left);
     }
 }
 

@@ -1,6 +1,5 @@
 // One turn of the filling walk: the next entry of the merged table from the back.
 use lengths::join;
-use tally::FEW;
 ghost use mathlib.Core.Path.{_≡_};
 ghost use Prim.Native.Nat.{ℕ, _+_, _*_, _-_, _≤_, _<_, max};
 ghost use mathlib.Core.List.{List};
@@ -64,20 +63,7 @@ pub(crate) fn put(words: &mut [u64], at: usize, id: u64, length: u64)
     words[at + 1] = length;
 }
 
-// Whether few entries are left of the source, and the table's last one is above them.
-fn goes_over(own: usize, others: usize, mine: u64, id: u64) -> bool
-    ensures { λ r. ⌜ (r ≡ true → id < mine) ⌝ }
-{
-    if others <= own / FEW {
-        if id < mine {
-            return true;
-        }
-    }
-    false
-}
-
-// One turn, with the last entry that is left of the source. Where few are left of it, that an entry of the table's own moves on is a branch: nearly every turn is
-// such a one then, which is foreseen.
+// One turn, with the last entry that is left of the source.
 pub(crate) fn turn(table: &mut [u64], left: Left, id: u64, length: u64) -> Left
     requires { ⌜ (1 ≤ left .others) × (1 ≤ left .place) × (left .own ≤ left .place) × (2 * left .place ≤ size (now table)) ⌝ }
     ensures { λ r. ⌜ ((t s : List ℕ) → Joining t s (λ q. getD (now (table .entry)) q 0) (left .own) (left .others) (left .place) → id ≡ idAt s (left .others - 1) → length ≡ lengthAt s (left .others - 1) → Joining t s (λ q. getD (now (table .exit)) q 0) (r .own) (r .others) (r .place)) ⌝ }
@@ -94,21 +80,44 @@ pub(crate) fn turn(table: &mut [u64], left: Left, id: u64, length: u64) -> Left
             place: place,
         };
     }
-    let mine = table[2 * own - 2];
-    let kept = table[2 * own - 1];
-    if goes_over(own, others, mine, id) {
-        put(table, 2 * place, mine, kept);
-        return Left {
-            own: own - 1,
-            others: others,
-            place: place,
-        };
-    }
-    let now = settle(mine, 0, kept, id, 0, length);
+    let now = settle(table[2 * own - 2], 0, table[2 * own - 1], id, 0, length);
     put(table, 2 * place, now.id, now.length);
     Left {
         own: own - now.own,
         others: others - now.others,
+        place: place,
+    }
+}
+
+// Whether the last entry that is left of a table is above an id.
+fn above(table: &[u64], own: usize, id: u64) -> bool
+    requires { ⌜ 2 * own ≤ size (now table) ⌝ }
+    ensures { λ r. ⌜ (r ≡ true → (1 ≤ own) × (id < getD (now (table .entry)) (2 * own - 2) 0)) ⌝ }
+{
+    if own == 0 {
+        return false;
+    }
+    id < table[2 * own - 2]
+}
+
+// All entries of the table that are above the last id that is left of the source move on, one after the other.
+pub(crate) fn slide(table: &mut [u64], left: Left, id: u64) -> Left
+    requires { ⌜ (1 ≤ left .others) × (left .own ≤ left .place) × (2 * left .place ≤ size (now table)) ⌝ }
+    ensures { λ r. ⌜ ((t s : List ℕ) → Joining t s (λ q. getD (now (table .entry)) q 0) (left .own) (left .others) (left .place) → id ≡ idAt s (left .others - 1) → Joining t s (λ q. getD (now (table .exit)) q 0) (r .own) (r .others) (r .place)) ⌝ }
+    ensures { λ r. ⌜ (r .others ≡ left .others) × (r .place ≤ left .place) × (size (now (table .exit)) ≡ size (now (table .entry))) ⌝ }
+{
+    let mut own = left.own;
+    let mut place = left.place;
+    while above(table, own, id) {
+        own = own - 1;
+        place = place - 1;
+        let mine = table[2 * own];
+        let kept = table[2 * own + 1];
+        put(table, 2 * place, mine, kept);
+    }
+    Left {
+        own: own,
+        others: left.others,
         place: place,
     }
 }
