@@ -1,8 +1,7 @@
 -- A gap's bytes, with something to come behind them. Assumes nothing.
-use mathlib.Core.Path.{_≡_, refl, ap, _∙_}
-use mathlib.Core.Bool.{true, false}
-use mathlib.Core.List.{List, [], _∷_, _++_}
-use Prim.Native.Nat.{ℕ, suc, _+_, _*_, _/_, _%_, _^_, _≤_, _<_}
+use mathlib.Core.Path.{_≡_, ap, _∙_}
+use mathlib.Core.List.{List, [], _∷_}
+use Prim.Native.Nat.{ℕ, suc, _+_, _*_, _/_, _%_, _≤_, _<_}
 use native.Mathlib.Omega.{arith}
 use native.Mathlib.Numerals.{add-one}
 use mir.Val.{boolByte}
@@ -15,6 +14,7 @@ use Rattle.rules.specs.meaning.Put.{put}
 use Rattle.rules.specs.laws.Put.{put-put, put-cons}
 use Rattle.rules.specs.laws.table.Order.{Side, Side.below, Side.same, Side.above, side}
 use Rattle.rules.specs.laws.group.Leb.{leb-small, leb-large}
+use Rattle.groups.specs.Writing.{Led}
 
 -- a byte that is written over
 put-over : (out : List ℕ) (at b : ℕ) (more : List ℕ) → 1 ≤ length more → put (set out at b) at more ≡ put out at more
@@ -23,10 +23,6 @@ put-over out at b more h =
     let t : take at (set out at b) ≡ take at out = take-set-le at out at b (omega arith) in
     let d : drop (at + length more) (set out at b) ≡ drop (at + length more) out = drop-set-lt (at + length more) out at b (omega arith) in
     rw (t, d)
-
--- what is said of the place behind a number and of the buffer: it is as though the number alone had been written, whatever comes behind
-abbrev pub Led : List ℕ → ℕ → ℕ → ℕ → List ℕ → Type 0
-Led out place n r after = (r ≡ place + length (leb128 n)) × ((more : List ℕ) → 1 ≤ length more → put after r more ≡ put out place (leb128 n ++ more))
 
 module _ (out : List ℕ) (place n : ℕ) (room : place + length (leb128 n) < length out) where
   pub long-gap : (r : ℕ) (after : List ℕ) → r ≡ place + length (leb128 n) → after ≡ put out place (leb128 n) → Led out place n r after

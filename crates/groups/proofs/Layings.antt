@@ -14,8 +14,7 @@ use Rattle.rules.specs.laws.Put.{put-nil, put-put}
 use Rattle.rules.specs.laws.table.View.{parts}
 use Rattle.rules.specs.laws.group.Groups.{Rising, done, entry, see-rising}
 use Rattle.rules.specs.laws.group.Leb.{leb-some}
-use Rattle.groups.specs.Writing.{IsGroup}
-use Rattle.groups.proofs.Gaps.{Led}
+use Rattle.groups.specs.Writing.{IsGroup, Led}
 
 -- ---- an entry at a place
 -- the bytes of the id, those of the length, and those of the entries behind

@@ -4,14 +4,13 @@ use rules::GROUP_BESIDES;
 use rules::GROUP_BY_WORD;
 use rules::Grouped;
 ghost use mathlib.Core.Path.{_≡_};
-ghost use mathlib.Core.List.{List, _++_};
-ghost use Prim.Native.Nat.{ℕ, _+_, _≤_, _<_};
+ghost use Prim.Native.Nat.{_+_, _≤_, _<_};
 ghost use lib.Dec.{leb};
 ghost use lib.ListN.{length};
 ghost use Rattle.rules.specs.meaning.Groups.{groupBytes, Written};
 ghost use Rattle.rules.specs.meaning.Leb.{leb128};
 ghost use Rattle.rules.specs.meaning.Put.{put};
-ghost use Rattle.groups.specs.Writing.{IsGroup};
+ghost use Rattle.groups.specs.Writing.{IsGroup, Led};
 
 // How many bytes a group takes.
 fn group_len(entries: &[u64]) -> usize
@@ -36,7 +35,7 @@ fn group_len(entries: &[u64]) -> usize
 // byte or two nobody can foresee: then both are written, and the one too many is written over by what comes behind. No jump depends on which it was.
 fn write_gap(out: &mut [u8], place: usize, n: u64) -> usize
     requires { ⌜ place + length (leb128 n) < length (now out) ⌝ }
-    ensures { λ r. ⌜ (r ≡ place + length (leb128 n)) × ((more : List ℕ) → 1 ≤ length more → put (now (out .exit)) r more ≡ put (now (out .entry)) place (leb128 n ++ more)) ⌝ }
+    ensures { λ r. ⌜ Led (now (out .entry)) place n r (now (out .exit)) ⌝ }
 {
     if n < 16384 {
         let two = n >= 128;

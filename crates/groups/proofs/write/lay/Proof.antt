@@ -7,7 +7,7 @@ use lib.ListN.{length, getD}
 use Rattle.rules.specs.meaning.Groups.{fieldsFrom, groupBytes}
 use Rattle.rules.specs.meaning.Put.{put}
 use Rattle.rules.specs.laws.group.Leb.{leb-some}
-use Rattle.groups.proofs.Gaps.{Led}
+use Rattle.groups.specs.Writing.{Led}
 use Rattle.groups.proofs.Layings.{Laying, Laid, Entry, gap-is, laying-none, laying-entry, laying-room, laying-more, laying-end, laid-more, laid-end, laid-group, count-first}
 use Rattle.groups.proofs.write.lay.Statement.{statement}
 use Rattle.groups.proofs.write.lay.Tie as tie

@@ -5,7 +5,7 @@ use native.Mathlib.Omega.{arith}
 use mir.Val.{boolByte}
 use borrow.Author.Needs.{needs}
 use lib.Dec.{leb}
-use lib.ListN.{length, length-set}
+use lib.ListN.{length-set}
 use Rattle.rules.specs.laws.group.Leb.{leb-some}
 use Rattle.groups.proofs.Gaps.{short-gap, long-gap}
 use Rattle.groups.proofs.write.write_gap.Statement.{statement}
