@@ -6,6 +6,7 @@ use mathlib.Core.Path.{_≡_, refl, sym, _∙_}
 use mathlib.Core.Logic.{inl, inr}
 use mathlib.Core.List.{List}
 use lib.ListN.{length, getD, set}
+use lib.Seq.{ext-getD}
 use Rattle.rules.specs.meaning.Lengths.{M}
 use Rattle.rules.specs.meaning.Table.{SoundTable, idAt, lengthAt, held, merged, heldMerged}
 use Rattle.rules.specs.laws.table.Order.{Side, Side.below, Side.same, Side.above, side}
@@ -148,6 +149,12 @@ module _ {t s : List ℕ} {u : ℕ → ℕ} {i j p : ℕ} (f : Joining t s u i j
             let ei : i - di ≡ a = omega (arith, r .2) in
             let ej : j - dj ≡ j = omega (arith, r .3) in
             rw (ei, ej) (goes-on a j p′ (turn-own wt ws wr (m .size) (m .of) u i j p (f .so-far) b p′ sb sp v a sa l (rw (r .0, r .1) at w)))
+
+-- where it ends: words that no entry of the source is left for are the merged table
+pub filled-words : {t s l : List ℕ} {i j p : ℕ} → Joining t s (λ q. getD l q 0) i j p → length l ≡ length t → j ≤ 0 → l ≡ merged t s
+filled-words f long z =
+    let done = filled f z in
+    ext-getD 0 _ _ (long ∙ sym (done .0)) (λ q h. done .1 q (omega (arith, long)))
 
 -- where it begins: the table as it stands
 pub joining-start : (t s : List ℕ) (u : ℕ → ℕ) → SoundTable t → SoundTable s → 2 * heldMerged t s ≤ length t → ((q : ℕ) → q < length t → u q ≡ getD t q 0)

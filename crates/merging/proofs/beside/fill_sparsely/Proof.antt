@@ -1,13 +1,12 @@
 -- `merging::beside::fill_sparsely`: as `fill_evenly`; what moved on before a turn is the merge come further (`slid`).
 -- Assumes nothing.
 use native.Mathlib.Omega.{arith}
-use mathlib.Core.Path.{_≡_, refl, sym, _∙_}
+use mathlib.Core.Path.{_≡_, refl, _∙_}
 use lib.ListN.{length, getD}
-use lib.Seq.{ext-getD}
 use denote.Ref.{now}
 use borrow.Author.Needs.{needs}
 use Rattle.merging.specs.Walks.{Joining}
-use Rattle.merging.proofs.Joins.{filled, source-id, source-length}
+use Rattle.merging.proofs.Joins.{filled-words, source-id, source-length}
 use Rattle.merging.proofs.beside.fill_sparsely.Statement.{statement}
 use Rattle.merging.proofs.beside.fill_sparsely.Tie as tie
 
@@ -89,10 +88,7 @@ same-length : tie.Need-same-length Inv-loop μ-loop
 same-length c = c .before .loop .inv .1
 
 returns : tie.Need-returns Inv-loop μ-loop
-returns c =
-    let l = c .before .loop in
-    let done = filled (l .inv .0) (c .loop-test .left) in
-    ext-getD 0 _ _ (l .inv .1 ∙ sym (done .0)) (λ q h. done .1 q (omega (arith, l .inv .1)))
+returns c = let v = c .before .loop .inv in filled-words (v .0) (v .1) (c .loop-test .left)
 
 pub fill-sparsely-spec : {M : Type 1} → statement M
 fill-sparsely-spec =
