@@ -120,14 +120,9 @@ fn eight(table: &[u64], entries: &[u64], at: At) -> At
         let after = table[2 * own + 2];
         let next = entries[2 * others + 2];
         abreast = abreast & (after == next);
-        let now = pass(
-            mine,
-            after,
-            table[2 * own + 1],
-            id,
-            next,
-            entries[2 * others + 1],
-        );
+        let kept = table[2 * own + 1];
+        let length = entries[2 * others + 1];
+        let now = pass(mine, after, kept, id, next, length);
         own = own + now.own;
         others = others + now.others;
         risen = risen + now.rises;

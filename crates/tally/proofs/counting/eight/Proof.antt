@@ -62,29 +62,29 @@ mul-next-2 c = search needs
 shared-slice-read-next : tie.Need-shared-slice-read-next Inv-loop μ-loop
 shared-slice-read-next c = search needs
 
-mul-pass : tie.Need-mul-pass Inv-loop μ-loop
-mul-pass c = search needs
+mul-kept : tie.Need-mul-kept Inv-loop μ-loop
+mul-kept c = search needs
 
-add-pass : tie.Need-add-pass Inv-loop μ-loop
-add-pass c = search needs
+add-kept : tie.Need-add-kept Inv-loop μ-loop
+add-kept c = search needs
 
-mul-pass-2 : tie.Need-mul-pass-2 Inv-loop μ-loop
-mul-pass-2 c = search needs
+mul-kept-2 : tie.Need-mul-kept-2 Inv-loop μ-loop
+mul-kept-2 c = search needs
 
-shared-slice-read-pass : tie.Need-shared-slice-read-pass Inv-loop μ-loop
-shared-slice-read-pass c = search needs
+shared-slice-read-kept : tie.Need-shared-slice-read-kept Inv-loop μ-loop
+shared-slice-read-kept c = search needs
 
-mul-pass-3 : tie.Need-mul-pass-3 Inv-loop μ-loop
-mul-pass-3 c = search needs
+mul-length : tie.Need-mul-length Inv-loop μ-loop
+mul-length c = search needs
 
-add-pass-2 : tie.Need-add-pass-2 Inv-loop μ-loop
-add-pass-2 c = search needs
+add-length : tie.Need-add-length Inv-loop μ-loop
+add-length c = search needs
 
-mul-pass-4 : tie.Need-mul-pass-4 Inv-loop μ-loop
-mul-pass-4 c = search needs
+mul-length-2 : tie.Need-mul-length-2 Inv-loop μ-loop
+mul-length-2 c = search needs
 
-shared-slice-read-pass-2 : tie.Need-shared-slice-read-pass-2 Inv-loop μ-loop
-shared-slice-read-pass-2 c = search needs
+shared-slice-read-length : tie.Need-shared-slice-read-length Inv-loop μ-loop
+shared-slice-read-length c = search needs
 
 pass-requires : tie.Need-pass-requires Inv-loop μ-loop
 pass-requires c κs = search needs
@@ -118,11 +118,11 @@ sub-fresh c = search needs
 sub-fresh-2 : tie.Need-sub-fresh-2 Inv-loop μ-loop
 sub-fresh-2 c = search needs
 
-add-t17 : tie.Need-add-t17 Inv-loop μ-loop
-add-t17 c = search needs
+add-t19 : tie.Need-add-t19 Inv-loop μ-loop
+add-t19 c = search needs
 
-add-t34 : tie.Need-add-t34 Inv-loop μ-loop
-add-t34 c = search needs
+add-t32 : tie.Need-add-t32 Inv-loop μ-loop
+add-t32 c = search needs
 
 returns : tie.Need-returns Inv-loop μ-loop
 returns c =
@@ -151,14 +151,14 @@ eight-spec =
     add-next
     mul-next-2
     shared-slice-read-next
-    mul-pass
-    add-pass
-    mul-pass-2
-    shared-slice-read-pass
-    mul-pass-3
-    add-pass-2
-    mul-pass-4
-    shared-slice-read-pass-2
+    mul-kept
+    add-kept
+    mul-kept-2
+    shared-slice-read-kept
+    mul-length
+    add-length
+    mul-length-2
+    shared-slice-read-length
     pass-requires
     add-own
     add-others
@@ -168,6 +168,6 @@ eight-spec =
     loop-again
     sub-fresh
     sub-fresh-2
-    add-t17
-    add-t34
+    add-t19
+    add-t32
     returns)
