@@ -3,7 +3,7 @@
 -- Assumes nothing.
 use Prim.Native.Nat.{ℕ, suc, _+_, _*_, _/_, _%_, _^_, _≤_, _<_}
 use mathlib.Core.Bool.{true, false, _&&_, cond}
-use mathlib.Core.Path.{_≡_, refl}
+use mathlib.Core.Path.{_≡_, refl, sym}
 use mathlib.Core.List.{List, _∷_, _++_}
 use lib.ListN.{length, getD}
 use lib.Dec.{eqb, ltb}
@@ -32,6 +32,7 @@ use Rattle.rules.specs.meaning.Leb.{leb128, readLeb}
 use Rattle.rules.specs.meaning.Groups.{isGroup, groupBytes, group, groupOf, entriesIn}
 use Rattle.rules.specs.meaning.Events.{Event, takes, absorbs, outcome, refusalFor, answerFor, afterEvent}
 use Rattle.rules.specs.meaning.Histories.{ran, acceptedOf, pairIn, isSendOn, sentOn, serialsFrom, absorbed, largest, samePairs, offered, among, distinct, lengthIn}
+use Rattle.rules.specs.meaning.Padding.{unpadded, isPadded, hasShortNumbers}
 use Rattle.rules.specs.meaning.Lines.{textOf, namesStep, numbersOf}
 use Rattle.rules.specs.meaning.StepLines.{lineOf, stepOf, Fits}
 use Rattle.rules.specs.meaning.Calls.{namedAnswer, Called}
@@ -135,9 +136,34 @@ pub written-is-read-as-numbers : (kind first second id : ℕ) → namesStep kind
     → numbersOf (textOf kind first second id) ≡ Numbers kind first second id
 written-is-read-as-numbers = Lines.written-read
 
--- "a line that is read is written back byte for byte"
-pub read-is-written : (line : List ℕ) (step : Step) → stepOf line ≡ Is step → (lineOf step ≡ line) × Fits step
-read-is-written = StepLines.read-step
+-- request 5: "a line read and written again has the same step with no padding": what is written is the line without its padding, and is read as the step
+pub read-is-written-unpadded : (line : List ℕ) (step : Step) → stepOf line ≡ Is step
+    → (lineOf step ≡ unpadded line) × (stepOf (unpadded line) ≡ Is step) × (isPadded (lineOf step) ≡ false) × Fits step
+read-is-written-unpadded line step h =
+    let r = StepLines.read-step line step h in
+    let again = StepLines.read-again line step h in
+    (r .text, again .0, again .1, r .fits)
+
+-- "up to 20 digits with leading zeros, as long as the value fits 64 bits", in every number of a line and no other text: a text is read as a step exactly where
+-- it is the line of that step but for padding, and no number of it has more than 20 digits
+pub padded-lines-are-read : (line : List ℕ) (step : Step) → Fits step
+    → (stepOf line ≡ Is step → (unpadded line ≡ lineOf step) × (hasShortNumbers line ≡ true))
+    × (unpadded line ≡ lineOf step → hasShortNumbers line ≡ true → stepOf line ≡ Is step)
+padded-lines-are-read line step fits = (
+  (λ h. let r = StepLines.read-step line step h in (sym (r .text), r .short)),
+  (λ e short. StepLines.padded-step line step e fits short),
+)
+
+-- "a line that is read is written back byte for byte", as document 01 has it, stays true of lines without padding
+pub read-is-written : (line : List ℕ) (step : Step) → isPadded line ≡ false → stepOf line ≡ Is step → (lineOf step ≡ line) × Fits step
+read-is-written = StepLines.read-same
+
+-- two lines can be one step now, where they differ in padding alone; and no line is two steps
+pub one-step-two-lines : (a b : List ℕ) (s t : Step) → stepOf a ≡ Is s → stepOf b ≡ Is t → (s ≡ t → unpadded a ≡ unpadded b) × (unpadded a ≡ unpadded b → s ≡ t)
+one-step-two-lines = StepLines.one-step-two-lines
+
+pub no-line-of-two-steps : (line : List ℕ) (s t : Step) → stepOf line ≡ Is s → stepOf line ≡ Is t → s ≡ t
+no-line-of-two-steps line s t p q = StepLines.one-step-two-lines line line s t p q .1 refl
 
 -- ---- demands 2 and 3: "Start fresh and take any list of steps, refused ones among them", and of the other operations
 module _ (run : Run) (first : ℕ) (s : State) (fresh : freshRefusal run (length (s .words)) (length (s .slots)) ≡ 0) where

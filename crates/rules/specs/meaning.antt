@@ -20,6 +20,7 @@ pub mod Groups
 pub mod Events
 pub mod Histories
 pub mod Number
+pub mod Padding
 pub mod Lines
 pub mod StepLines
 pub mod Writing

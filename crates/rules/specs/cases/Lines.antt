@@ -7,7 +7,8 @@ use Prim.Native.String.{String}
 use lib.Dec.{eqb}
 use lib.ListN.{replicate}
 use Rattle.rules.specs.meaning.Text.{ascii, behind}
-use Rattle.rules.specs.meaning.Number.{upTo, digits, digitOf, digitRun, fair, judged, readNumber}
+use Rattle.rules.specs.meaning.Number.{upTo, digits, digitOf, startsDigit, digitRun, fair, judged, readNumber}
+use Rattle.rules.specs.meaning.Padding.{isPadding, unpaddedFrom, unpadded, paddedFrom, isPadded}
 use Rattle.rules.specs.meaning.Lines.{lead, field, textOf, namesStep, firstOf, kindOf, readField, numbersOf}
 use Rattle.rules.specs.meaning.Refusals.{firstGiven}
 use Rattle.rules.specs.meaning.Put.{put}
@@ -24,6 +25,14 @@ gives NoLine k′ a′ b′ i′ = false
 -- the text is the line of the four numbers, both ways
 both : String → ℕ → ℕ → ℕ → ℕ → Bool
 both s k a b i = same (textOf k a b i) (ascii s) && gives (numbersOf (ascii s)) k a b i
+
+-- the text is read as the four numbers, and without its padding it is their line
+padded : String → ℕ → ℕ → ℕ → ℕ → Bool
+padded s k a b i = isPadded (ascii s) && gives (numbersOf (ascii s)) k a b i && same (unpadded (ascii s)) (textOf k a b i)
+
+-- padding, and nothing else, is dropped, whatever the text is
+drops : String → String → Bool
+drops s t = same (unpadded (ascii s)) (ascii t)
 
 isRefused : Line → Bool
 isRefused (Numbers k a b i) = false
@@ -46,9 +55,13 @@ cases =
     ∷ no-line ""
     ∷ no-line "step=add node=0 id="
     ∷ no-line "step=add node= id=7"
-    ∷ no-line "step=add node=00 id=7"
-    ∷ no-line "step=add node=0 id=07"
     ∷ no-line "step=add node=0 id=18446744073709551616"
+    ∷ no-line "step=add node=0 id=99999999999999999999"
+    ∷ no-line "step=add node=0 id=018446744073709551615"
+    ∷ no-line "step=add node=0 id=000000000000000000000"
+    ∷ no-line "step=add node=000000000000000000001 id=7"
+    ∷ no-line "step=send from=1 to=000000000000000000002 id=7"
+    ∷ no-line "step=deliver slot=000000000000000000000"
     ∷ no-line "step=add node=0 id=7 "
     ∷ no-line " step=add node=0 id=7"
     ∷ no-line "step=add node=0  id=7"
@@ -58,10 +71,22 @@ cases =
     ∷ no-line "step=merge from=1 to=2 id=0"
     ∷ no-line "step=deliver slot=0 id=0"
     ∷ no-line "step=Add node=0 id=7"
+    ∷ padded "step=add node=00 id=7" 1 0 0 7
+    ∷ padded "step=remove node=0 id=00000000000000000007" 2 0 0 7
+    ∷ padded "step=query node=00000000000000000000 id=0010" 3 0 0 10
+    ∷ padded "step=send from=01 to=00000000000000000002 id=00100" 4 1 2 100
+    ∷ padded "step=send from=00000000000000000001 to=00000000000000000002 id=00000000000000000003" 4 1 2 3
+    ∷ padded "step=merge from=1 to=02" 5 1 2 0
+    ∷ padded "step=deliver slot=07" 6 7 0 0
+    ∷ padded "step=again slot=01844674407370955161" 7 1844674407370955161 0 0
+    ∷ padded "step=lose slot=00000000000000000000" 8 0 0 0
+    ∷ drops "" ""
+    ∷ drops "007 0 00 a01b0 10 0x0 =000000000000000000000" "7 0 0 a1b0 10 0x0 =0"
+    ∷ drops "step=add node=0 id=100" "step=add node=0 id=100"
     ∷ []
 
 pub worked : all cases ≡ true
-unfolding cases both no-line isRefused gives textOf field lead digits upTo numbersOf kindOf firstOf behind readField readNumber judged digitRun fair digitOf
+unfolding cases both padded drops isPadded paddedFrom unpadded unpaddedFrom isPadding startsDigit no-line isRefused gives textOf field lead digits upTo numbersOf kindOf firstOf behind readField readNumber judged digitRun fair digitOf
 worked = refl
 
 -- ---- the reader that C calls: "An area under 32 bytes gives 13, then 11 is tried", and what stands in the area afterwards; the check: 11, then 13

@@ -80,8 +80,12 @@ pub record ReportCases : Type 0 where
   pub returned : reportOf (ascii "step=query node=2 id=0\r\nstep=query node=2 id=0\n")
       ≡ ascii "line=1 refused=11\nline=2 node=2 id=0 length=0 present=0\n" ++ emptyEnd
   -- a line that names no step is counted, and the run goes on from the state before it
-  pub between : reportOf (ascii "step=add node=0 id=7\nstep=add node=00 id=8\nstep=query node=0 id=7\n")
+  pub between : reportOf (ascii "step=add node=0 id=7\nstep=add node=0 id=\nstep=query node=0 id=7\n")
       ≡ ascii "line=2 refused=11\nline=3 node=0 id=7 length=1 present=1\n"
+      ++ ascii "sent=0\ncopied=0\nabsorbed=0\nlost=0\nwaiting=0\nnode=0 held=1 shown=1\nnode=1 held=0 shown=0\nnode=2 held=0 shown=0\n"
+  -- numbers are printed without the zeros that stood in front of them, and 21 digits are refused
+  pub padded : reportOf (ascii "step=add node=00 id=00000000000000000007\nstep=query node=000 id=07\nstep=query node=0 id=000000000000000000007\n")
+      ≡ ascii "line=2 node=0 id=7 length=1 present=1\nline=3 refused=11\n"
       ++ ascii "sent=0\ncopied=0\nabsorbed=0\nlost=0\nwaiting=0\nnode=0 held=1 shown=1\nnode=1 held=0 shown=0\nnode=2 held=0 shown=0\n"
   -- a refused query says its refusal alone, and a parcel that waits is counted
   pub waits : reportOf (ascii "step=add node=0 id=7\nstep=send from=0 to=1 id=7\nstep=query node=3 id=0\n")
@@ -96,7 +100,8 @@ report-cases = record {
   unended = report-of-pieces ([] ∷ [] ∷ []) (ascii "step=add node=0 id=7") refl refl;
   one-byte = report-of-pieces [] (ascii " ") refl refl;
   returned = report-of-pieces (ascii "step=query node=2 id=0\r" ∷ ascii "step=query node=2 id=0" ∷ []) [] refl refl;
-  between = report-of-pieces (ascii "step=add node=0 id=7" ∷ ascii "step=add node=00 id=8" ∷ ascii "step=query node=0 id=7" ∷ []) [] refl refl;
+  between = report-of-pieces (ascii "step=add node=0 id=7" ∷ ascii "step=add node=0 id=" ∷ ascii "step=query node=0 id=7" ∷ []) [] refl refl;
+  padded = report-of-pieces (ascii "step=add node=00 id=00000000000000000007" ∷ ascii "step=query node=000 id=07" ∷ ascii "step=query node=0 id=000000000000000000007" ∷ []) [] refl refl;
   waits = report-of-pieces (ascii "step=add node=0 id=7" ∷ ascii "step=send from=0 to=1 id=7" ∷ ascii "step=query node=3 id=0" ∷ []) [] refl refl;
 }
 

@@ -1,5 +1,6 @@
 -- Step lines.
 pub mod Numbers
+pub mod Padding
 pub mod Lines
 pub mod Places
 pub mod Steps

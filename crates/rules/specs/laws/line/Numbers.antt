@@ -1,14 +1,15 @@
 -- What follows for decimal numbers. Assumes nothing.
 use mathlib.Core.Path.{_≡_, refl, sym, ap, _∙_}
-use mathlib.Core.Bool.{Bool, true, false, cond}
+use mathlib.Core.Bool.{Bool, true, false, _&&_, cond, and-false, false≢true}
 use mathlib.Core.List.{List, [], _∷_, _++_, append-assoc}
 use Prim.Native.Nat.{ℕ, zero, suc, _+_, _-_, _*_, _/_, _%_, _^_, _≤_, _<_}
 use native.Mathlib.Omega.{arith}
-use borrow.Author.Tests.{ltb-true, ltb-false, leb-true, lt-ltb, le-ltb, le-leb, lt-leb, ne-eqb}
-use lib.Dec.{ltb, leb, eqb}
-use lib.ListN.{length, getD, length-append}
+use borrow.Author.Tests.{ltb-true, ltb-false, leb-true, lt-ltb, le-ltb, le-leb, lt-leb}
+use lib.Dec.{ltb, leb}
+use lib.ListN.{length, length-append}
+use Rattle.rules.specs.laws.table.View.{parts}
 use Rattle.rules.specs.meaning.Text.{front, refused, pick}
-use Rattle.rules.specs.meaning.Number.{upTo, digits, digitOf, digitRun, fair, judged, readNumber}
+use Rattle.rules.specs.meaning.Number.{upTo, mostDigits, digits, digitOf, isDigit, startsDigit, digitRun, fair, judged, readNumber}
 
 -- the two cases of an order
 pub below : {P : Type 0} (a b : ℕ) → (a < b → P) → (b ≤ a → P) → P
@@ -58,9 +59,12 @@ pub digits-small : (n : ℕ) → n < 10 → digits n ≡ (48 + n) ∷ []
 unfolding digits
 digits-small n h = up-small 19 n h
 
-pub digits-large : (n : ℕ) → 10 ≤ n → n < 2 ^ 64 → digits n ≡ digits (n / 10) ++ ((48 + n % 10) ∷ [])
+pub digits-wide : (n : ℕ) → 10 ≤ n → n < 10 ^ mostDigits → digits n ≡ digits (n / 10) ++ ((48 + n % 10) ∷ [])
 unfolding digits
-digits-large n l h = up-large 19 n l ∙ ap (λ (t : List ℕ). t ++ ((48 + n % 10) ∷ [])) (up-enough 18 (n / 10) (omega arith))
+digits-wide n l h = up-large 19 n l ∙ ap (λ (t : List ℕ). t ++ ((48 + n % 10) ∷ [])) (up-enough 18 (n / 10) (omega arith))
+
+pub digits-large : (n : ℕ) → 10 ≤ n → n < 2 ^ 64 → digits n ≡ digits (n / 10) ++ ((48 + n % 10) ∷ [])
+digits-large n l h = digits-wide n l (omega arith)
 
 -- ---- reading
 run-digit : (v d : ℕ) (xs : List ℕ) → d < 10 → digitRun v ((48 + d) ∷ xs) ≡ digitRun (v * 10 + d) xs
@@ -73,19 +77,15 @@ run-up (suc k) n xs h =
     below n 10 (λ s. rw (up-small (suc k) n s) (run-digit 0 n xs s ∙ ap (λ (v : ℕ). digitRun v xs) (omega arith)))
     (λ l. rw (up-large (suc k) n l, append-assoc) (run-up k (n / 10) ((48 + n % 10) ∷ xs) (omega arith) ∙ run-digit (n / 10) (n % 10) xs (omega arith) ∙ ap (λ (v : ℕ). digitRun v xs) (omega arith)))
 
-pub run-digits : (n : ℕ) (xs : List ℕ) → n < 2 ^ 64 → digitRun 0 (digits n ++ xs) ≡ digitRun n xs
+pub run-digits : (n : ℕ) (xs : List ℕ) → n < 10 ^ mostDigits → digitRun 0 (digits n ++ xs) ≡ digitRun n xs
 unfolding digits
-run-digits n xs h = run-up 19 n xs (omega arith)
+run-digits n xs h = run-up 19 n xs h
 
--- a text that does not begin with a digit
-abbrev pub NoDigit : List ℕ → Type 0
-NoDigit [] = Unit {0}
-NoDigit (c ∷ xs) = 10 ≤ digitOf c
-
-pub run-stop : (v : ℕ) (xs : List ℕ) → NoDigit xs → digitRun v xs ≡ front v xs
-unfolding digitRun
+-- a text that does not begin with a digit ends the run
+pub run-stop : (v : ℕ) (xs : List ℕ) → startsDigit xs ≡ false → digitRun v xs ≡ front v xs
+unfolding digitRun startsDigit
 run-stop v [] h = refl
-run-stop v (c ∷ xs) h = simp (le-ltb (digitOf c) 10 h)
+run-stop v (c ∷ xs) h = rw h
 
 -- a run never lowers the value, and goes on to the right
 pub run-grows : (v : ℕ) (xs : List ℕ) (w : ℕ) (rest : List ℕ) → digitRun v xs ≡ front w rest → v ≤ w
@@ -113,95 +113,98 @@ run-front v (c ∷ xs) =
     (λ s. let g = run-front (v * 10 + digitOf c) xs in (g .0, g .1, rw (lt-ltb (digitOf c) 10 s) (g .2)))
     (λ l. (v, c ∷ xs, rw (le-ltb (digitOf c) 10 l)))
 
--- what was read on from a number is the text of the number with its digits behind it
-pub run-text : (v : ℕ) (xs : List ℕ) (w : ℕ) (rest : List ℕ) → 0 < v → w < 2 ^ 64 → digitRun v xs ≡ front w rest → digits v ++ xs ≡ digits w ++ rest
+-- what is left does not begin with a digit
+pub run-rest : (v : ℕ) (xs : List ℕ) (w : ℕ) (rest : List ℕ) → digitRun v xs ≡ front w rest → startsDigit rest ≡ false
+unfolding digitRun startsDigit
+run-rest v [] w rest e = let k : [] ≡ rest = cc in rw (← k)
+run-rest v (c ∷ xs) w rest e =
+    by-test (isDigit c)
+    (λ y. run-rest (v * 10 + digitOf c) xs w rest (rw y at e))
+    (λ n. let q : front v (c ∷ xs) ≡ front w rest = rw n at e in let k : c ∷ xs ≡ rest = cc in rw (← k) n)
+
+-- a run that begins takes a digit at least
+pub run-takes : (v : ℕ) (xs : List ℕ) (w : ℕ) (rest : List ℕ) → startsDigit xs ≡ true → digitRun v xs ≡ front w rest → length rest < length xs
+unfolding digitRun startsDigit
+run-takes v [] w rest h e = absurd (false≢true h)
+run-takes v (c ∷ xs) w rest h e = let g = run-short (v * 10 + digitOf c) xs w rest (rw h at e) in omega arith
+
+-- each digit makes the value less than ten times as large
+pub run-tens : (j v : ℕ) (xs : List ℕ) (w : ℕ) (rest : List ℕ) → v < 10 ^ j → digitRun v xs ≡ front w rest → w < 10 ^ (j + (length xs - length rest))
 unfolding digitRun
-run-text v [] w rest p h e = cc
-run-text v (c ∷ xs) w rest p h e =
+run-tens j v [] w rest h e =
+    let k : v ≡ w = cc in
+    let n : j ≡ j + (0 - length rest) = omega arith in
+    rw (← k, ← n) h
+run-tens j v (c ∷ xs) w rest h e =
     below (digitOf c) 10
     (λ s.
-    let d = digitOf c in
-    let e′ : digitRun (v * 10 + d) xs ≡ front w rest = simp (lt-ltb d 10 s) at e in
-    let g : v * 10 + d ≤ w = run-grows (v * 10 + d) xs w rest e′ in
-    let one : digits (v * 10 + d) ≡ digits v ++ (c ∷ []) =
-    digits-large (v * 10 + d) (omega arith) (omega arith)
-    ∙ ap (λ (n : ℕ). digits n ++ ((48 + (v * 10 + d) % 10) ∷ [])) (omega arith)
-    ∙ ap (λ (n : ℕ). digits v ++ (n ∷ [])) (let k : 48 + (v * 10 + d) % 10 ≡ c = omega (arith, digit-is c s) in k) in
-    sym (append-assoc (digits v) (c ∷ []) xs) ∙ ap (λ (t : List ℕ). t ++ xs) (sym one) ∙ run-text (v * 10 + d) xs w rest (omega arith) h e′)
-    (λ l. let q : front v (c ∷ xs) ≡ front w rest = simp (le-ltb (digitOf c) 10 l) at e in cc)
+    let e′ : digitRun (v * 10 + digitOf c) xs ≡ front w rest = simp (lt-ltb (digitOf c) 10 s) at e in
+    let n : suc j + (length xs - length rest) ≡ j + (length (c ∷ xs) - length rest) = omega (arith, run-short (v * 10 + digitOf c) xs w rest e′) in
+    rw (← n) (run-tens (suc j) (v * 10 + digitOf c) xs w rest (omega arith) e′))
+    (λ l.
+    let q : front v (c ∷ xs) ≡ front w rest = simp (le-ltb (digitOf c) 10 l) at e in
+    let k : v ≡ w = cc in
+    let r : c ∷ xs ≡ rest = cc in
+    let n : j ≡ j + (length (c ∷ xs) - length rest) = omega (arith, ap length r) in
+    rw (← k, ← n) h)
 
 -- ---- what makes a run a number
-pub fair-yes : (first count v : ℕ) → 0 < count → (1 < count → 48 < first) → v < 2 ^ 64 → fair first count v ≡ true
+pub fair-yes : (count v : ℕ) → 0 < count → count ≤ mostDigits → v < 2 ^ 64 → fair count v ≡ true
 unfolding fair
-fair-yes first count v p q h =
-    below 1 count
-    (λ m. let f = q m in simp (ne-eqb count 0 (λ z. omega arith), lt-leb count 1 m, ne-eqb first 48 (λ z. omega arith), lt-ltb v (2 ^ 64) h))
-    (λ l. simp (ne-eqb count 0 (λ z. omega arith), le-leb count 1 l, lt-ltb v (2 ^ 64) h))
+fair-yes count v p q h = rw (le-leb 1 count p, le-leb count mostDigits q) (lt-ltb v (2 ^ 64) h)
 
 -- why a run is no number
-pub fair-empty : (first v : ℕ) → fair first 0 v ≡ false
+pub fair-empty : (v : ℕ) → fair 0 v ≡ false
 unfolding fair
-fair-empty first v = refl
+fair-empty v = refl
 
-pub fair-padded : (count v : ℕ) → 1 < count → fair 48 count v ≡ false
+pub fair-long : (count v : ℕ) → mostDigits < count → fair count v ≡ false
 unfolding fair
-fair-padded count v m = simp (ne-eqb count 0 (λ z. omega arith), lt-leb count 1 m)
+fair-long count v h = rw (lt-leb count mostDigits h, and-false (leb 1 count))
 
-pub fair-large : (first count v : ℕ) → 2 ^ 64 ≤ v → fair first count v ≡ false
+pub fair-large : (count v : ℕ) → 2 ^ 64 ≤ v → fair count v ≡ false
 unfolding fair
-fair-large first count v h =
-    go (eqb count 0) (leb count 1) (eqb first 48)
-  where
-    go : (r s t : Bool) → cond r false (cond s (ltb v (2 ^ 64)) (cond t false (ltb v (2 ^ 64)))) ≡ false
-    go true s t = refl
-    go false true t = le-ltb v (2 ^ 64) h
-    go false false true = refl
-    go false false false = le-ltb v (2 ^ 64) h
+fair-large count v h = rw (le-ltb v (2 ^ 64) h) (and-false (leb 1 count && leb count mostDigits))
 
-pub fair-says : (first count v : ℕ) → fair first count v ≡ true → (0 < count) × (1 < count → first ≡ 48 → ⊥) × (v < 2 ^ 64)
-fair-says first count v e = (
-  below 0 count (λ p. p) (λ z. absurd (no (e′ (fair-empty first v) (let k : 0 ≡ count = omega arith in ap (λ (n : ℕ). fair first n v) k)))),
-  (λ m z. absurd (no (e′ (fair-padded count v m) (ap (λ (n : ℕ). fair n count v) (sym z))))),
-  below v (2 ^ 64) (λ p. p) (λ l. absurd (no (e′ (fair-large first count v l) refl))),
-)
-  where
-    no : true ≡ false → ⊥
-    no p = let z : _≡_ {A = ℕ} 0 1 = cc in omega arith
+pub fair-says : (count v : ℕ) → fair count v ≡ true → (0 < count) × (count ≤ mostDigits) × (v < 2 ^ 64)
+unfolding fair
+fair-says count v e =
+    let a = parts (leb 1 count && leb count mostDigits) (ltb v (2 ^ 64)) e in
+    let b = parts (leb 1 count) (leb count mostDigits) (a .0) in
+    (leb-true 1 count (b .0), leb-true count mostDigits (b .1), ltb-true v (2 ^ 64) (a .1))
 
-    e′ : {b : Bool} → b ≡ false → b ≡ fair first count v → true ≡ false
-    e′ p q = sym e ∙ sym q ∙ p
+-- ---- how long the text of a number is
+up-length : (k n : ℕ) → length (upTo k n) ≤ k
+unfolding upTo
+up-length zero n = omega arith
+up-length (suc k) n = below n 10 (λ s. rw (lt-ltb n 10 s) (omega arith)) (λ l. rw (le-ltb n 10 l, length-append) (let h = up-length k (n / 10) in omega arith))
+
+pub digits-length : (n : ℕ) → length (digits n) ≤ mostDigits
+unfolding digits
+digits-length n = up-length mostDigits n
+
+pub one-digit : (n : ℕ) → n < 10 → length (digits n) ≡ 1
+one-digit n h = ap length (digits-small n h)
+
+pub more-digits : (n : ℕ) → 10 ≤ n → n < 2 ^ 64 → length (digits n) ≡ length (digits (n / 10)) + 1
+more-digits n l h = ap length (digits-large n l h) ∙ length-append (digits (n / 10)) ((48 + n % 10) ∷ [])
+
+pub digits-some : (n : ℕ) → n < 10 ^ mostDigits → 0 < length (digits n)
+digits-some n h =
+    below n 10 (λ s. rw (digits-small n s) (omega arith)) (λ l. rw (digits-wide n l h, length-append) (omega arith))
 
 -- ---- the number at the front of a text
-first-up : (k n : ℕ) (xs : List ℕ) → 0 < n → n < 10 ^ suc k → 48 < getD (upTo (suc k) n ++ xs) 0 0
-first-up zero n xs p h = let s : n < 10 = omega arith in rw (up-small 0 n s) (omega arith)
-first-up (suc k) n xs p h =
-    below n 10 (λ s. rw (up-small (suc k) n s) (omega arith))
-    (λ l. rw (up-large (suc k) n l, append-assoc) (first-up k (n / 10) ((48 + n % 10) ∷ xs) (omega arith) (omega arith)))
-
-pub digits-first : (n : ℕ) (xs : List ℕ) → 0 < n → n < 2 ^ 64 → 48 < getD (digits n ++ xs) 0 0
-unfolding digits
-digits-first n xs p h = first-up 19 n xs p (omega arith)
-
-pub digits-some : (n : ℕ) → n < 2 ^ 64 → 0 < length (digits n)
-digits-some n h =
-    below n 10 (λ s. rw (digits-small n s) (omega arith)) (λ l. rw (digits-large n l h, length-append) (omega arith))
-
 -- a number that was written is read back, and the rest with it
-pub read-digits : (n : ℕ) (rest : List ℕ) → n < 2 ^ 64 → NoDigit rest → readNumber (digits n ++ rest) ≡ front n rest
+pub read-digits : (n : ℕ) (rest : List ℕ) → n < 2 ^ 64 → startsDigit rest ≡ false → readNumber (digits n ++ rest) ≡ front n rest
 unfolding readNumber judged
 read-digits n rest h stop =
-    rw (run-digits n rest h, run-stop n rest stop, length-append, fair-yes (getD (digits n ++ rest) 0 0) (length (digits n) + length rest - length rest) n some first h)
-  where
-    some : 0 < length (digits n) + length rest - length rest
-    some = omega (arith, digits-some n h)
-
-    first : 1 < length (digits n) + length rest - length rest → 48 < getD (digits n ++ rest) 0 0
-    first m = below 0 n (λ p. digits-first n rest p h) (λ z. absurd (let s : n < 10 = omega arith in let k : length (digits n) ≡ 1 = ap length (digits-small n s) in omega arith))
+    let k : length (digits n) + length rest - length rest ≡ length (digits n) = omega arith in
+    rw (run-digits n rest (omega arith), run-stop n rest stop, length-append, k, fair-yes (length (digits n)) n (digits-some n (omega arith)) (digits-length n) h)
 
 -- what a reading says
-pub read-says : (xs : List ℕ) (v : ℕ) (rest : List ℕ) → readNumber xs ≡ front v rest → (digitRun 0 xs ≡ front v rest) × (fair (getD xs 0 0) (length xs - length rest) v ≡ true)
+pub read-says : (xs : List ℕ) (v : ℕ) (rest : List ℕ) → readNumber xs ≡ front v rest → (digitRun 0 xs ≡ front v rest) × (fair (length xs - length rest) v ≡ true)
 unfolding readNumber judged
-read-says xs v rest e = go (fair (getD xs 0 0) (length xs - length r) w) refl
+read-says xs v rest e = go (fair (length xs - length r) w) refl
   where
     w : ℕ
     w = run-front 0 xs .0
@@ -212,10 +215,10 @@ read-says xs v rest e = go (fair (getD xs 0 0) (length xs - length r) w) refl
     is : digitRun 0 xs ≡ front w r
     is = run-front 0 xs .2
 
-    e′ : pick (fair (getD xs 0 0) (length xs - length r) w) (front w r) refused ≡ front v rest
+    e′ : pick (fair (length xs - length r) w) (front w r) refused ≡ front v rest
     e′ = rw is at e
 
-    go : (b : Bool) → fair (getD xs 0 0) (length xs - length r) w ≡ b → (digitRun 0 xs ≡ front v rest) × (fair (getD xs 0 0) (length xs - length rest) v ≡ true)
+    go : (b : Bool) → fair (length xs - length r) w ≡ b → (digitRun 0 xs ≡ front v rest) × (fair (length xs - length rest) v ≡ true)
     go true q =
         let k : front w r ≡ front v rest = rw q at e′ in
         let kw : w ≡ v = cc in
@@ -234,54 +237,3 @@ run-suffix v (c ∷ xs) w rest e =
 
 pub read-suffix : (xs : List ℕ) (v : ℕ) (rest : List ℕ) → readNumber xs ≡ front v rest → (p : List ℕ) × (xs ≡ p ++ rest)
 read-suffix xs v rest e = run-suffix 0 xs v rest (read-says xs v rest e .0)
-
--- a run that takes nothing
-run-same : (v : ℕ) (xs : List ℕ) (w : ℕ) (rest : List ℕ) → digitRun v xs ≡ front w rest → length xs ≤ length rest → (xs ≡ rest) × (v ≡ w)
-unfolding digitRun
-run-same v [] w rest e h = (cc, cc)
-run-same v (c ∷ xs) w rest e h =
-    below (digitOf c) 10
-    (λ s. absurd (let g : length rest ≤ length xs = run-short (v * 10 + digitOf c) xs w rest (simp (lt-ltb (digitOf c) 10 s) at e) in omega arith))
-    (λ l. let q : front v (c ∷ xs) ≡ front w rest = simp (le-ltb (digitOf c) 10 l) at e in (cc, cc))
-
-from-run : (xs : List ℕ) (v : ℕ) (rest : List ℕ) → digitRun 0 xs ≡ front v rest → 0 < length xs - length rest → (1 < length xs - length rest → getD xs 0 0 ≡ 48 → ⊥) → v < 2 ^ 64 → xs ≡ digits v ++ rest
-unfolding digitRun
-from-run [] v rest e p q h = absurd (omega arith)
-from-run (c ∷ xs) v rest e p q h =
-    below (digitOf c) 10
-    (λ s.
-    let d = digitOf c in
-    let e′ : digitRun (0 * 10 + d) xs ≡ front v rest = simp (lt-ltb d 10 s) at e in
-    let e″ : digitRun d xs ≡ front v rest = ap (λ (n : ℕ). digitRun n xs) (omega arith) ∙ e′ in
-    let is : c ≡ 48 + d = digit-is c s in
-    let one : digits d ≡ c ∷ [] = digits-small d s ∙ ap (λ (n : ℕ). n ∷ []) (sym is) in
-    below 0 d
-    (λ pos. ap (λ (t : List ℕ). t ++ xs) (sym one) ∙ run-text d xs v rest pos h e″)
-    (λ z.
-    let long : length xs ≤ length rest = below 1 (length (c ∷ xs) - length rest) (λ m. absurd (q m (omega arith))) (λ l. omega arith) in
-    let same = run-same d xs v rest e″ long in
-    ap (λ (t : List ℕ). t ++ xs) (sym one) ∙ ap (λ (n : ℕ). digits n ++ xs) (same .1) ∙ ap (λ (t : List ℕ). digits v ++ t) (same .0)))
-    (λ l. absurd (let q : front 0 (c ∷ xs) ≡ front v rest = simp (le-ltb (digitOf c) 10 l) at e in let k : c ∷ xs ≡ rest = cc in omega (arith, ap length k)))
-
--- a number that is read is written back
-pub read-text : (xs : List ℕ) (v : ℕ) (rest : List ℕ) → readNumber xs ≡ front v rest → (xs ≡ digits v ++ rest) × (v < 2 ^ 64)
-read-text xs v rest e =
-    let s = read-says xs v rest e in
-    let f = fair-says (getD xs 0 0) (length xs - length rest) v (s .1) in
-    (from-run xs v rest (s .0) (f .0) (f .1) (f .2), f .2)
-
--- ---- how long the text of a number is
-up-length : (k n : ℕ) → length (upTo k n) ≤ k
-unfolding upTo
-up-length zero n = omega arith
-up-length (suc k) n = below n 10 (λ s. rw (lt-ltb n 10 s) (omega arith)) (λ l. rw (le-ltb n 10 l, length-append) (let h = up-length k (n / 10) in omega arith))
-
-pub digits-length : (n : ℕ) → length (digits n) ≤ 20
-unfolding digits
-digits-length n = up-length 20 n
-
-pub one-digit : (n : ℕ) → n < 10 → length (digits n) ≡ 1
-one-digit n h = ap length (digits-small n h)
-
-pub more-digits : (n : ℕ) → 10 ≤ n → n < 2 ^ 64 → length (digits n) ≡ length (digits (n / 10)) + 1
-more-digits n l h = ap length (digits-large n l h) ∙ length-append (digits (n / 10)) ((48 + n % 10) ∷ [])

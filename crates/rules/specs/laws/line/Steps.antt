@@ -1,9 +1,9 @@
--- Writing a step and reading it back, reading a line and writing it back, how long a line can be, and the eight forms as document 01 lists them.
+-- Writing a step and reading it back, reading a line and writing it back without padding, how long a line can be, and the eight forms as document 01 lists them.
 -- Assumes nothing.
 use Prim.Native.Nat.{ℕ, zero, suc, _^_, _≤_, _<_}
 use native.Mathlib.Omega.{arith}
 use mathlib.Core.Path.{_≡_, refl, sym, ap, _∙_}
-use mathlib.Core.Bool.{true}
+use mathlib.Core.Bool.{Bool, true, false}
 use mathlib.Core.List.{List, _++_, append-nil}
 use lib.ListN.{length, getD, length-append}
 use Rattle.rules.specs.declared.Step.{Step}
@@ -13,9 +13,11 @@ use Rattle.rules.specs.declared.Line.the-variants.{Numbers, NoLine}
 use Rattle.rules.specs.declared.Named.the-variants.{Is, NoStep}
 use Rattle.rules.specs.meaning.Text.{ascii}
 use Rattle.rules.specs.meaning.Number.{upTo, digits}
+use Rattle.rules.specs.meaning.Padding.{unpadded, isPadded, hasShortNumbers}
 use Rattle.rules.specs.laws.line.Numbers.{by-test, digits-length}
-use Rattle.rules.specs.meaning.Lines.{lead, field, textOf, namesStep, numbersOf}
-use Rattle.rules.specs.laws.line.Lines.{written-read, read-written, step-says}
+use Rattle.rules.specs.laws.line.Padding.{unpadded-same, unpadded-none}
+use Rattle.rules.specs.meaning.Lines.{lead, toName, idName, hasSecond, hasId, field, textOf, namesStep, numbersOf}
+use Rattle.rules.specs.laws.line.Lines.{fieldRoom, lineRoom, written-read, read-written, shown-read, step-says}
 use Rattle.rules.specs.meaning.Kinds.{numbers}
 use Rattle.rules.specs.meaning.StepLines.{steps, stepFor, stepIn, lineOf, stepOf, Fits}
 
@@ -136,45 +138,93 @@ line-cases : {P : Type 0} (l : Line) → (l ≡ NoLine → P) → ((kind first s
 line-cases (Numbers kind first second e) f g = g kind first second e refl
 line-cases NoLine f g = f refl
 
--- "a line that is read is written back byte for byte"
-pub read-step : (xs : List ℕ) (step : Step) → stepOf xs ≡ Is step → (lineOf step ≡ xs) × Fits step
-unfolding stepOf stepIn
-read-step xs step h =
-    line-cases (numbersOf xs)
-    (λ n. absurd (let q : NoStep ≡ Is step = rw n at h in let z : _≡_ {A = ℕ} 0 1 = cc in omega arith))
-    (λ kind first second e n.
-    let q : stepFor kind first second e ≡ Is step = rw n at h in
-    let w = read-written xs kind first second e n in
-    let s = named-line first second e kind step q in
-    (s .0 ∙ sym (w .text), s .1 (w .first-fits) (w .second-fits) (w .id-fits)))
-
 -- ---- "The longest line has 83 bytes"
-module _ (first second e : ℕ) where
-  text-within : (kind : ℕ) → 1 ≤ kind → kind ≤ 8 → length (textOf kind first second e) ≤ 83
-  unfolding textOf lead field
-  text-within zero p q = absurd (omega arith)
-  text-within (suc zero) p q = simp (length-append) (omega (arith, digits-length first, digits-length e))
-  text-within (suc (suc zero)) p q = simp (length-append) (omega (arith, digits-length first, digits-length e))
-  text-within (suc (suc (suc zero))) p q = simp (length-append) (omega (arith, digits-length first, digits-length e))
-  text-within (suc (suc (suc (suc zero)))) p q = simp (length-append) (omega (arith, digits-length first, digits-length second, digits-length e))
-  text-within (suc (suc (suc (suc (suc zero))))) p q = simp (length-append) (omega (arith, digits-length first, digits-length second))
-  text-within (suc (suc (suc (suc (suc (suc zero)))))) p q = simp (length-append) (omega (arith, digits-length first))
-  text-within (suc (suc (suc (suc (suc (suc (suc zero))))))) p q = simp (length-append) (omega (arith, digits-length first))
-  text-within (suc (suc (suc (suc (suc (suc (suc (suc zero)))))))) p q = simp (length-append) (omega (arith, digits-length first))
-  text-within (suc (suc (suc (suc (suc (suc (suc (suc (suc k))))))))) p q = absurd (omega arith)
+room-within : (kind : ℕ) → 1 ≤ kind → kind ≤ 8 → lineRoom kind ≤ 83
+unfolding lineRoom fieldRoom lead
+room-within zero p q = absurd (omega arith)
+room-within (suc zero) p q = omega arith
+room-within (suc (suc zero)) p q = omega arith
+room-within (suc (suc (suc zero))) p q = omega arith
+room-within (suc (suc (suc (suc zero)))) p q = omega arith
+room-within (suc (suc (suc (suc (suc zero))))) p q = omega arith
+room-within (suc (suc (suc (suc (suc (suc zero)))))) p q = omega arith
+room-within (suc (suc (suc (suc (suc (suc (suc zero))))))) p q = omega arith
+room-within (suc (suc (suc (suc (suc (suc (suc (suc zero)))))))) p q = omega arith
+room-within (suc (suc (suc (suc (suc (suc (suc (suc (suc k))))))))) p q = absurd (omega arith)
+
+field-within : (b : Bool) (name : List ℕ) (n : ℕ) → length (field b name n) ≤ fieldRoom b name
+unfolding field fieldRoom
+field-within true name n = rw (length-append name (digits n)) (omega (arith, digits-length n))
+field-within false name n = omega arith
+
+text-within : (kind first second e : ℕ) → length (textOf kind first second e) ≤ lineRoom kind
+unfolding textOf lineRoom
+text-within kind first second e =
+    simp (length-append) (omega (arith, digits-length first, field-within (hasSecond kind) toName second, field-within (hasId kind) idName e))
 
 -- no line is longer
 pub at-most-83 : (step : Step) → length (lineOf step) ≤ 83
 unfolding lineOf
 at-most-83 step =
     let s = step-says (numbers step .kind) (numbers step .second) (numbers step .id) (numbers-name step .0) in
-    text-within (numbers step .first) (numbers step .second) (numbers step .id) (numbers step .kind) (s .0) (s .1)
-
--- so a text of more than 83 bytes is no step line
-pub read-at-most-83 : (xs : List ℕ) (step : Step) → stepOf xs ≡ Is step → length xs ≤ 83
-read-at-most-83 xs step h = rw (← read-step xs step h .0) (at-most-83 step)
+    omega (arith, text-within (numbers step .kind) (numbers step .first) (numbers step .second) (numbers step .id), room-within (numbers step .kind) (s .0) (s .1))
 
 -- and one line has as many: the largest numbers in a send
 pub longest-is-83 : length (lineOf (Send 18446744073709551615 18446744073709551615 18446744073709551615)) ≡ 83
 unfolding lineOf numbers textOf lead field digits upTo
 longest-is-83 = refl
+
+-- ---- a line that is read
+-- what is known of a text and the step that it is read as
+pub record Reads (line : List ℕ) (step : Step) : Type 0 where
+  pub text : lineOf step ≡ unpadded line
+  pub fits : Fits step
+  pub short : hasShortNumbers line ≡ true
+  pub within : length line ≤ 83
+
+pub read-step : (line : List ℕ) (step : Step) → stepOf line ≡ Is step → Reads line step
+unfolding stepOf stepIn
+read-step line step h =
+    line-cases (numbersOf line)
+    (λ n. absurd (let q : NoStep ≡ Is step = rw n at h in let z : _≡_ {A = ℕ} 0 1 = cc in omega arith))
+    (λ kind first second e n.
+    let q : stepFor kind first second e ≡ Is step = rw n at h in
+    let w = read-written line kind first second e n in
+    let s = named-line first second e kind step q in
+    let k = step-says kind second e (w .step) in
+    record {
+      text = s .0 ∙ sym (w .text);
+      fits = s .1 (w .first-fits) (w .second-fits) (w .id-fits);
+      short = w .short;
+      within = omega (arith, w .within, room-within kind (k .0) (k .1));
+    })
+
+-- so a text of more than 83 bytes is no step line
+pub read-at-most-83 : (line : List ℕ) (step : Step) → stepOf line ≡ Is step → length line ≤ 83
+read-at-most-83 line step h = read-step line step h .within
+
+-- and back: the line of a step with padding, but no number of more than 20 digits, is read as that step
+pub padded-step : (line : List ℕ) (step : Step) → unpadded line ≡ lineOf step → Fits step → hasShortNumbers line ≡ true → stepOf line ≡ Is step
+unfolding lineOf stepOf stepIn stepFor
+padded-step line step e h short =
+    let n = numbers-name step in
+    rw (shown-read line _ (numbers step .first) _ _ (n .0) (h .0) (h .1) (h .2) e short, n .0) (n .1)
+
+-- a line that is read has its step's line left, which is read as the same step and has no padding
+pub read-again : (line : List ℕ) (step : Step) → stepOf line ≡ Is step → (stepOf (unpadded line) ≡ Is step) × (isPadded (lineOf step) ≡ false)
+unfolding isPadded unpadded
+read-again line step h =
+    let r = read-step line step h in
+    (ap stepOf (sym (r .text)) ∙ written-step step (r .fits), ap isPadded (r .text) ∙ unpadded-none false line)
+
+-- a line that has no padding is written back byte for byte
+pub read-same : (line : List ℕ) (step : Step) → isPadded line ≡ false → stepOf line ≡ Is step → (lineOf step ≡ line) × Fits step
+unfolding isPadded unpadded
+read-same line step n h = let r = read-step line step h in (r .text ∙ unpadded-same false line n, r .fits)
+
+-- two lines are one step exactly where they differ in padding alone
+pub one-step-two-lines : (a b : List ℕ) (s t : Step) → stepOf a ≡ Is s → stepOf b ≡ Is t → (s ≡ t → unpadded a ≡ unpadded b) × (unpadded a ≡ unpadded b → s ≡ t)
+one-step-two-lines a b s t p q =
+    let x = read-step a s p in
+    let y = read-step b t q in
+    ((λ e. sym (x .text) ∙ ap lineOf e ∙ y .text), (λ e. one-step s t (x .fits) (y .fits) (x .text ∙ e ∙ sym (y .text))))

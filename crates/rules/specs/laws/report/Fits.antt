@@ -18,6 +18,8 @@ use Rattle.rules.specs.meaning.Kinds.{numbers, isQuery}
 use Rattle.rules.specs.laws.line.Numbers.{below, by-test}
 use Rattle.rules.specs.meaning.Lines.{lead, field, textOf}
 use Rattle.rules.specs.meaning.StepLines.{lineOf, stepOf}
+use Rattle.rules.specs.meaning.Padding.{unpadded}
+use Rattle.rules.specs.laws.line.Padding.{unpadded-length}
 use Rattle.rules.specs.laws.line.Steps.{read-step}
 use Rattle.rules.specs.meaning.Calls.{namedAfter}
 use Rattle.rules.specs.meaning.Reports.{reportRun, reportStart, lineEnd, refusedLine, endLines, acceptedLine, lineBy, saidOf, lastPiece, reportFrom, reportOf, inputLimit, endRoom, reportRoom, reportRefusal, reportFor, queryLine}
@@ -74,11 +76,14 @@ line-by-within (suc r) n step m p q = let a : length (refusedLine n (suc r)) ≤
 
 -- what a text says is within 22 bytes for each of its bytes and its end
 pub said-within : (n : ℕ) (s : State) (line : List ℕ) → n < 100000 → length (saidOf n s (stepOf line)) ≤ 22 * (length line + 1)
-unfolding saidOf
+unfolding saidOf unpadded
 said-within n s line p = go (stepOf line) refl
   where
+    no-longer : (step : Step) → stepOf line ≡ Is step → length (lineOf step) ≤ length line
+    no-longer step e = rw (read-step line step e .text) (unpadded-length false line)
+
     go : (r : Named) → stepOf line ≡ r → length (saidOf n s r) ≤ 22 * (length line + 1)
-    go (Is step) e = rw (← read-step line step e .0) (line-by-within (refusalOf reportRun s step) n step (valueOf reportRun s step) p (refusal-within reportRun s step))
+    go (Is step) e = omega (arith, line-by-within (refusalOf reportRun s step) n step (valueOf reportRun s step) p (refusal-within reportRun s step), no-longer step e)
     go NoStep e = let a = refused-within n 11 p (omega arith) in omega arith
 
 last-within : (n : ℕ) (line : List ℕ) → n < 100000 → length (lastPiece n line) ≤ 22 * length line
