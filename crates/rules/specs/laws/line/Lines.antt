@@ -210,7 +210,7 @@ took-field true name xs n rest h e =
     rw (behind-text name xs (s .0) (s .1) (s .2)) (took-both (name ++ s .1) name (s .1) (digits n) rest (length name) mostDigits (took-text name (s .1) h) (took-number (s .1) n rest (s .3)))
 took-field false name xs n rest h e =
     let k : xs ≡ rest = cc in
-    rw k (record { shown = refl; short = λ s. s; within = omega arith; })
+    rw k (record { shown = refl; short = λ s. s; within = omega arith })
 
 field-fits : (b : Bool) (name xs : List ℕ) (n : ℕ) (rest : List ℕ) → readField b name xs ≡ front n rest → (n < 2 ^ 64) × (b ≡ false → n ≡ 0)
 unfolding readField
