@@ -3,7 +3,7 @@ use rules::Piece;
 ghost use mathlib.Core.Path.{_≡_};
 ghost use Prim.Native.Nat.{_+_, _≤_};
 ghost use lib.ListN.{length};
-ghost use Rattle.rules.specs.meaning.Number.{digitOf, fair, digits};
+ghost use Rattle.rules.specs.meaning.Number.{digitOf, digits};
 ghost use Rattle.rules.specs.laws.line.Places.{numberAt};
 ghost use Rattle.rules.specs.meaning.Put.{put};
 
@@ -19,23 +19,8 @@ fn digit(c: u8) -> u64
     10
 }
 
-// "with no sign and no leading zero but `0` itself": whether a run of digits is a number, by its first byte, its count and its value.
-fn is_fair(first: u8, count: usize, v: u64) -> bool
-    ensures { λ r. ⌜ r ≡ fair first count v ⌝ }
-{
-    if count == 0 {
-        return false;
-    }
-    if count <= 1 {
-        return true;
-    }
-    if first == 48 {
-        return false;
-    }
-    true
-}
-
-// The number that stands at a place of a line, and the place behind it. A value that leaves 64 bits is refused at the digit that does it.
+// The number that stands at a place of a line, and the place behind it: up to 20 digits, zeros in front among them. A value that leaves 64 bits is refused
+// at the digit that does it.
 pub(crate) fn read_number(line: &[u8], place: usize) -> Piece
     ensures { λ r. ⌜ r ≡ numberAt (now (line .entry)) place ⌝ }
 {
@@ -59,10 +44,10 @@ pub(crate) fn read_number(line: &[u8], place: usize) -> Piece
     if i == place {
         return Piece::Refused;
     }
-    if is_fair(line[place], i - place, v) {
-        return Piece::Read(v, i);
+    if i - place > 20 {
+        return Piece::Refused;
     }
-    Piece::Refused
+    Piece::Read(v, i)
 }
 
 // How many digits a number has. Four go with each division, as a division costs more than a comparison; a single digit, the common case of a

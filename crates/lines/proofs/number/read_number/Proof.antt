@@ -10,7 +10,7 @@ use Rattle.rules.specs.meaning.Number.{digitRun}
 use Rattle.rules.specs.laws.line.Numbers.{below}
 use mathlib.Core.Logic.{⊎-elim}
 use denote.Ref.{now}
-use Rattle.lines.proofs.Digits.{run-more, run-end, run-other, refuse-over, refuse-empty, accept, refuse-unfair}
+use Rattle.lines.proofs.Digits.{run-more, run-end, run-other, refuse-over, refuse-empty, refuse-long, accept}
 use Rattle.lines.proofs.number.read_number.Statement.{statement}
 use Rattle.lines.proofs.number.read_number.Tie as tie
 
@@ -68,26 +68,20 @@ whole c = sym (c .before .loop .inv .3) ∙ halt c
 returns-3 : tie.Need-returns-3 Inv-loop μ-loop
 returns-3 c = refuse-empty _ _ _ (c .before .before .loop .i) (whole (c .before)) (c .if4 .taken)
 
-shared-slice-read-is-fair : tie.Need-shared-slice-read-is-fair Inv-loop μ-loop
-shared-slice-read-is-fair c = omega arith
-
-sub-is-fair : tie.Need-sub-is-fair Inv-loop μ-loop
-sub-is-fair c = omega arith
-
-is-fair-requires : tie.Need-is-fair-requires Inv-loop μ-loop
-is-fair-requires c κs = search needs
+sub-if5 : tie.Need-sub-if5 Inv-loop μ-loop
+sub-if5 c = omega arith
 
 -- a loop that moved has not left the line
 within : (c : tie.Else4 Inv-loop μ-loop) → c .before .before .loop .i ≤ length (now (c .before .before .before .before .args .line))
 within c = below (c .before .before .before .before .args .place) (c .before .before .loop .i) (λ h. omega arith) (λ h. absurd (c .if4 .left (omega arith)))
 
 returns-4 : tie.Need-returns-4 Inv-loop μ-loop
-returns-4 c = let l = c .before .before .before .before in
-    accept _ _ _ _ (l .before .loop .inv .0) (within (c .before .before .before)) (whole l) (sym (c .before .is-fair .ensures) ∙ c .if5 .taken)
+returns-4 c = let l = c .before .before in
+    refuse-long _ _ _ (l .before .loop .i) (l .before .loop .inv .0) (within (c .before)) (whole l) (c .if5 .taken)
 
 returns-5 : tie.Need-returns-5 Inv-loop μ-loop
-returns-5 c = let l = c .before .before .before .before in
-    refuse-unfair _ _ _ (l .before .loop .i) (l .before .loop .inv .0) (within (c .before .before .before)) (whole l) (sym (c .before .is-fair .ensures) ∙ c .if5 .left)
+returns-5 c = let l = c .before .before in
+    accept _ _ _ _ (omega arith) (within (c .before)) (whole l) (c .if5 .left) (l .before .loop .inv .2)
 
 pub read-number-spec : {M : Type 1} → statement M
 read-number-spec =
@@ -107,8 +101,6 @@ read-number-spec =
     loop-less
     loop-again
     returns-3
-    shared-slice-read-is-fair
-    sub-is-fair
-    is-fair-requires
+    sub-if5
     returns-4
     returns-5)
