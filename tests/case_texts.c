@@ -94,10 +94,11 @@ void case_write(rng *r) {
 
 void case_read(rng *r) {
     static area *const areas[] = {&line, &room, 0};
-    uint8_t text[LINE_ROOM * 2], back[128];
+    uint8_t text[LINE_ROOM * 2], bare[LINE_ROOM * 2], back[128];
+    int whole = one_in(r, 3);
     size_t n = some_line(r, one_in(r, 3), text), has = one_in(r, 10) ? (size_t)below(r, 32) : one_in(r, 2) ? 32 : 32 + (size_t)below(r, 20), k;
-    if (!one_in(r, 3)) n = damage_line(r, text, n);
-    if (one_in(r, 6)) n = damage_line(r, text, n);
+    if (!whole) n = damage_line(r, text, n);
+    if (!whole && one_in(r, 6)) n = damage_line(r, text, n);
     area_place(&line, r, n);
     memcpy(line.start[0], text, n);
     area_share(&line);
@@ -112,11 +113,13 @@ void case_read(rng *r) {
     same_answers(a, b, "refusal");
     same_areas(areas);
     meet(READ, b);
+    if (whole) meet_line(text, n, b);
     if (b != 0) return;
-    /* a line that is read is written back byte for byte */
+    if (n > WG_LINE_MAX) differ("a line of %zu bytes is read", n);
+    /* a line that is read is written back without its padding */
     k = wg_write_line(wg_number(room.start[0], 0), wg_number(room.start[0], 1), wg_number(room.start[0], 2), wg_number(room.start[0], 3),
                       back, sizeof back);
-    if (k != n || memcmp(back, text, n) != 0) differ("the line read is written back otherwise");
+    if (k != model_unpadded(text, n, bare) || memcmp(back, bare, k) != 0) differ("the line read is written back otherwise");
 }
 
 /* ---- reports ---- */

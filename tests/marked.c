@@ -456,7 +456,36 @@ static void lines(void) {
     same("written back", (uint64_t)memcmp(back, text, WG_LINE_MAX), 0);
     same("a line as a step", wg_do_line(&run, (const uint8_t *)"step=add node=1 id=5", 20, &value), 0);
     same("a line as a step", value, 1);
-    same("no line as a step", wg_do_line(&run, (const uint8_t *)"step=add node=1 id=05", 21, &value), 11);
+    same("a padded line as a step", wg_do_line(&run, (const uint8_t *)"step=query node=01 id=05", 24, &value), 0);
+    same("a padded line as a step", value, 1);
+    same("no line as a step", wg_do_line(&run, (const uint8_t *)"step=add node=1 id=+5", 21, &value), 11);
+}
+
+/* A line whose id has these digits, read, and written back from its numbers. */
+static void one_padded(const char *digits, uint32_t refusal, uint64_t id, const char *back) {
+    char line[WG_LINE_MAX];
+    uint8_t area[WG_AREA], written[WG_LINE_MAX];
+    size_t n;
+    strcpy(line, "step=query node=0 id=");
+    strcat(line, digits);
+    same(line, wg_read_line((const uint8_t *)line, strlen(line), area, sizeof area), refusal);
+    if (refusal != 0) return;
+    same(line, wg_number(area, 3), id);
+    n = wg_write_line(WG_QUERY, wg_number(area, 1), wg_number(area, 2), wg_number(area, 3), written, sizeof written);
+    same(line, n, strlen(back));
+    same(line, (uint64_t)memcmp(written, back, n), 0);
+}
+
+/* Request 5: up to 20 digits with zeros in front, where the value fits 64 bits. */
+static void padded_lines(void) {
+    one_padded("00000000000000000007", 0, 7, "step=query node=0 id=7");
+    one_padded("00000000000000000000", 0, 0, "step=query node=0 id=0");
+    one_padded("09999999999999999999", 0, UINT64_C(9999999999999999999), "step=query node=0 id=9999999999999999999");
+    one_padded("18446744073709551615", 0, UINT64_MAX, "step=query node=0 id=18446744073709551615");
+    one_padded("18446744073709551616", 11, 0, "");
+    one_padded("99999999999999999999", 11, 0, "");
+    one_padded("000000000000000000007", 11, 0, "");
+    one_padded("000000000000000000000", 11, 0, "");
 }
 
 int main(void) {
@@ -476,6 +505,7 @@ int main(void) {
     absorbed();
     reports();
     lines();
+    padded_lines();
     for (k = 0; k < 19; k++)
         if (wg_refusal_text(k)[0] == 0) wrong = 1;
     if (!wrong) printf("marked: P1 to P12, the burst, the serials, the groups, the sample report, the longest line and the longest report are as the rules say\n");

@@ -70,6 +70,14 @@ void sum_up_groups(void);
 enum { GROUP_DAMAGES = 5 };
 const uint64_t *group_damage(int of, const char *const **names, int *n);
 
+/* met_lines.c: a line that was made and not damaged, and what its reading answered. */
+void meet_line(const uint8_t *line, size_t n, uint32_t refusal);
+void sum_up_lines(void);
+
+extern const char *const line_names[];
+extern uint64_t lines[];
+extern const int line_count;
+
 /* Prints all of it, and returns how much was not met, or a refusal too seldom. */
 int print_met(void);
 

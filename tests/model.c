@@ -466,9 +466,11 @@ static const char *const forms[] = {
     "step=lose slot=#1",
 };
 
-/* The number that begins at line[*at], moved past; false where there is none or it is too large. */
+/* The number that begins at line[*at], moved past; false where there is none, where it has more than 20 digits, or where it is too large. Zeros in
+ * front are digits like any other. */
 static bool take_number(const uint8_t *line, size_t n, size_t *at, uint64_t *number) {
     char digits[21], again[24];
+    const char *bare = digits;
     size_t k = 0;
     while (*at + k < n && line[*at + k] >= '0' && line[*at + k] <= '9') {
         if (k == 20) return false;
@@ -477,13 +479,13 @@ static bool take_number(const uint8_t *line, size_t n, size_t *at, uint64_t *num
     }
     digits[k] = 0;
     if (k == 0) return false;
-    /* the last digits of a number past 64 bits, or a leading zero, do not come back as they were */
+    *at += k;
+    while (bare[0] == '0' && bare[1] != 0) bare++;
     *number = 0;
     for (k = 0; digits[k]; k++) *number = *number * 10 + (uint64_t)(digits[k] - '0');
+    /* the last digits of a number past 64 bits do not come back as they were */
     snprintf(again, sizeof again, "%" PRIu64, *number);
-    if (strcmp(again, digits) != 0) return false;
-    *at += k;
-    return true;
+    return strcmp(again, bare) == 0;
 }
 
 static bool fits(const char *form, const uint8_t *line, size_t n, uint64_t numbers[4]) {
@@ -552,6 +554,17 @@ size_t model_write_line(uint64_t kind, uint64_t first, uint64_t second, uint64_t
     if (n == 0 || n > room) return 0;
     memcpy(buffer, text, n);
     return n;
+}
+
+/* Zeros behind a `=` are padding, up to the last digit. */
+size_t model_unpadded(const uint8_t *line, size_t n, uint8_t *bare) {
+    size_t k, m = 0;
+    for (k = 0; k < n; k++) {
+        bare[m++] = line[k];
+        if (line[k] != '=') continue;
+        while (k + 2 < n && line[k + 1] == '0' && line[k + 2] >= '0' && line[k + 2] <= '9') k++;
+    }
+    return m;
 }
 
 /* ---- the report ---- */

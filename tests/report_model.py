@@ -6,7 +6,7 @@ import re
 import sys
 
 SITES, CAPACITY, SLOTS, LARGEST, LIMIT = 3, 8, 8, 4294967295, 32768
-NUMBER = rb"(0|[1-9][0-9]{0,19})"
+NUMBER = rb"([0-9]{1,20})"
 FORMS = [
     ("add", rb"step=add node=N id=N"), ("remove", rb"step=remove node=N id=N"), ("query", rb"step=query node=N id=N"),
     ("send", rb"step=send from=N to=N id=N"), ("merge", rb"step=merge from=N to=N"),
@@ -164,7 +164,7 @@ REFUSALS = "".join([
     add(3, 1), send(0, 0, 1), deliver(0), send(0, 1, 1), "".join(add(0, i) for i in range(9)), send(0, 1, 0),
     "step=again slot=0\n" * 8, "step=merge from=0 to=1\n", "step=merge from=1 to=1\n", "step=lose slot=7\n", "step=lose slot=8\n",
 ])
-NUMBERS = "step=add node=0 id=18446744073709551615\nstep=query node=0 id=18446744073709551615\nstep=query node=0 id=18446744073709551616\nstep=query node=0 id=00\nstep=query node=00 id=0\nstep=query node=0 id=0 \n step=query node=0 id=0\n"
+NUMBERS = "step=add node=0 id=18446744073709551615\nstep=query node=0 id=18446744073709551615\nstep=query node=0 id=18446744073709551616\nstep=query node=0 id=00\nstep=query node=00 id=0\nstep=query node=00000000000000000000 id=000000000000000000000\nstep=query node=0 id=0 \n step=query node=0 id=0\n"
 WHOLE = [
     ("no input", ""),
     ("one line end", "\n"),

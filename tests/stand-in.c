@@ -12,5 +12,6 @@
 #define model_check_line wg_check_line
 #define model_write_line wg_write_line
 #define model_report wg_report
+#define model_unpadded unpadded_again /* no call of the library */
 #include <model.c>
 #include <model_groups.c>

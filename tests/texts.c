@@ -14,6 +14,12 @@ static uint64_t some_number(rng *r, int small, uint64_t few) {
     }
 }
 
+/* How many digits a number has at least: mostly as many as it needs, else any number of them up to one more than may stand there. */
+static int some_digits(rng *r, int small) { return one_in(r, small ? 12 : 3) ? 1 + (int)below(r, 21) : 1; }
+
+#define NUMBER "%0*" PRIu64
+#define DIGITS(n) some_digits(r, small), n
+
 size_t some_line(rng *r, int small, uint8_t *line) {
     static const char *const at_node[] = {"add", "remove", "query"};
     static const char *const at_slot[] = {"deliver", "again", "lose"};
@@ -21,10 +27,19 @@ size_t some_line(rng *r, int small, uint8_t *line) {
     uint64_t id = some_number(r, small, 12), slot = some_number(r, small, one_in(r, 6) ? 10 : 4);
     char *text = (char *)line;
     uint64_t way = below(r, 10);
-    if (way < 5) return (size_t)sprintf(text, "step=%s node=%" PRIu64 " id=%" PRIu64, at_node[way % 3], a, id);
-    if (way < 7) return (size_t)sprintf(text, "step=send from=%" PRIu64 " to=%" PRIu64 " id=%" PRIu64, a, b, id);
-    if (way < 8) return (size_t)sprintf(text, "step=merge from=%" PRIu64 " to=%" PRIu64, a, b);
-    return (size_t)sprintf(text, "step=%s slot=%" PRIu64, at_slot[below(r, 3)], slot);
+    int n, m, k;
+    if (way < 5) {
+        n = sprintf(text, "step=%s node=" NUMBER, at_node[way % 3], DIGITS(a));
+        return (size_t)(n + sprintf(text + n, " id=" NUMBER, DIGITS(id)));
+    }
+    if (way < 8) {
+        n = sprintf(text, "step=%s from=" NUMBER, way < 7 ? "send" : "merge", DIGITS(a));
+        m = sprintf(text + n, " to=" NUMBER, DIGITS(b));
+        k = way < 7 ? sprintf(text + n + m, " id=" NUMBER, DIGITS(id)) : 0;
+        return (size_t)(n + m + k);
+    }
+    n = sprintf(text, "step=%s slot=", at_slot[below(r, 3)]);
+    return (size_t)(n + sprintf(text + n, NUMBER, DIGITS(slot)));
 }
 
 static size_t insert(uint8_t *line, size_t n, size_t at, const char *what) {
@@ -52,7 +67,8 @@ static size_t other_number(rng *r, uint8_t *line, size_t n) {
     static const char *const others[] = {
         "", "00", "01", "+1", "-1", "-0", "0x1", "1e3", " 1", "1 ", "1.0", "1,000", "18446744073709551616", "18446744073709551615",
         "18446744073709551620", "99999999999999999999", "36893488147419103232", "018446744073709551615", "000000000000000000007",
-        "00000000000000000007", "184467440737095516150", "100000000000000000000", "28446744073709551615", "1\n", "1/", "1:",
+        "00000000000000000007", "00000000000000000000", "000000000000000000000", "0000000000000000000000000000000000000007", "018446744073709551616",
+        "184467440737095516150", "100000000000000000000", "28446744073709551615", "1\n", "1/", "1:",
     };
     size_t at = number_place(r, line, n), many = 0;
     if (at == 0) return n;

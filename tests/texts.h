@@ -6,7 +6,8 @@
 
 enum { TEXT_MAX = 33000, LINE_ROOM = 256 };
 
-/* A valid step line with any numbers (or with small ones, such as the report's run has); returns its bytes. */
+/* A step line with any numbers (or with small ones, such as the report's run has), now and then with zeros in front of them. It is valid, but for
+ * a number of 21 digits now and then. Returns its bytes. */
 size_t some_line(rng *r, int small, uint8_t *line);
 
 /* Changes a line a little, in one of the ways that a loose reader would let through; returns its bytes. */

@@ -26,6 +26,7 @@ step=query node=0 id=18446744073709551615
 step=query node=0 id=18446744073709551616
 step=query node=0 id=00
 step=query node=00 id=0
+step=query node=00000000000000000000 id=000000000000000000000
 step=query node=0 id=0 
  step=query node=0 id=0
 ";

@@ -7,6 +7,9 @@ ghost use Rattle.rules.specs.meaning.Number.{digitOf, digits};
 ghost use Rattle.rules.specs.laws.line.Places.{numberAt};
 ghost use Rattle.rules.specs.meaning.Put.{put};
 
+// How many digits a number that is read may have, zeros in front among them; the largest number has as many.
+const MOST_DIGITS: usize = 20;
+
 // The digit that a byte stands for. 10 says that it stands for none: then one test tells digits from the rest.
 fn digit(c: u8) -> u64
     ensures { λ r. ⌜ r ≡ digitOf c ⌝ }
@@ -44,7 +47,7 @@ pub(crate) fn read_number(line: &[u8], place: usize) -> Piece
     if i == place {
         return Piece::Refused;
     }
-    if i - place > 20 {
+    if i - place > MOST_DIGITS {
         return Piece::Refused;
     }
     Piece::Read(v, i)
