@@ -92,7 +92,7 @@ void case_write(rng *r) {
                  "refusal of the check with any room");
 }
 
-void case_read(rng *r) {
+static void one_read(rng *r) {
     static area *const areas[] = {&line, &room, 0};
     uint8_t text[LINE_ROOM * 2], bare[LINE_ROOM * 2], back[128];
     int whole = one_in(r, 3);
@@ -120,6 +120,11 @@ void case_read(rng *r) {
     k = wg_write_line(wg_number(room.start[0], 0), wg_number(room.start[0], 1), wg_number(room.start[0], 2), wg_number(room.start[0], 3),
                       back, sizeof back);
     if (k != model_unpadded(text, n, bare) || memcmp(back, bare, k) != 0) differ("the line read is written back otherwise");
+}
+
+void case_read(rng *r) {
+    int k;
+    for (k = 0; k < 4; k++) one_read(r);
 }
 
 /* ---- reports ---- */

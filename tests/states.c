@@ -27,7 +27,7 @@ shape bad_shape(rng *r) {
     switch (below(r, 9)) {
     case 0: s.sites = 0; s.n_words = 0; break;
     case 1: s.sites = 17; s.n_words = (size_t)(34 * s.capacity > 65568 ? 0 : 34 * s.capacity); break;
-    case 2: s.sites = edge(r) + 18; break;
+    case 2: s.sites = edge(r) | 32; break;
     case 3: s.sites = 1 + below(r, 16); s.capacity = 2049; s.n_words = (size_t)(s.sites * 4098); break;
     case 4: s.capacity = edge(r) | UINT64_C(4096); break;
     case 5: s.sites = 16; s.capacity = UINT64_C(1) << (59 + below(r, 5)); s.n_words = 0; break; /* 2 x 16 x C is 0 in 64 bits */

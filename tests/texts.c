@@ -6,7 +6,8 @@
 
 static uint64_t some_number(rng *r, int small, uint64_t few) {
     if (small) return below(r, few);
-    switch (below(r, 4)) {
+    switch (below(r, 5)) {
+    case 4: return 0;
     case 0: return edge(r);
     case 1: return below(r, 20);
     case 2: return UINT64_MAX - below(r, 3);
@@ -14,8 +15,11 @@ static uint64_t some_number(rng *r, int small, uint64_t few) {
     }
 }
 
-/* How many digits a number has at least: mostly as many as it needs, else any number of them up to one more than may stand there. */
-static int some_digits(rng *r, int small) { return one_in(r, small ? 12 : 3) ? 1 + (int)below(r, 21) : 1; }
+/* How many digits a number has at least: mostly as many as it needs, else any number of them, often the most that may stand there, now and then one more. */
+static int some_digits(rng *r, int small) {
+    if (!one_in(r, small ? 12 : 2)) return 1;
+    return one_in(r, 3) ? 20 : one_in(r, 12) ? 21 : 2 + (int)below(r, 18);
+}
 
 #define NUMBER "%0*" PRIu64
 #define DIGITS(n) some_digits(r, small), n
