@@ -1,22 +1,34 @@
 -- A run of digits, read turn by turn: one law for a turn of the loop, one for each way out, in the words of the contract.
 -- Assumes nothing.
 use mathlib.Core.Path.{_≡_, sym, ap, _∙_}
+use mathlib.Core.Bool.{Bool, true, false, not}
 use mathlib.Core.List.{List}
 use Prim.Native.Nat.{ℕ, _+_, _-_, _*_, _^_, _≤_, _<_}
 use native.Mathlib.Omega.{arith}
 use native.Mathlib.Numerals.{add-one}
-use borrow.Author.Tests.{lt-ltb, le-ltb}
+use borrow.Author.Tests.{ltb-true, ltb-false, not-true, not-false, lt-ltb, le-ltb}
 use lib.ListN.{length, getD, drop, length-drop, drop-of-length-le}
 use lib.Seq.{drop-cons}
 use Rattle.rules.specs.declared.Piece.the-variants.{Read, Refused}
 use Rattle.rules.specs.meaning.Text.{front, refused, pick}
-use Rattle.rules.specs.meaning.Number.{mostDigits, digitOf, startsDigit, digitRun, fair, judged, readNumber}
-use Rattle.rules.specs.laws.line.Numbers.{run-stop, run-front, run-grows, fair-yes, fair-empty, fair-long, fair-large}
+use Rattle.rules.specs.meaning.Number.{mostDigits, digitOf, isDigit, startsDigit, digitRun, fair, judged, readNumber}
+use Rattle.rules.specs.laws.line.Numbers.{digit-is, run-stop, run-front, run-grows, fair-yes, fair-empty, fair-long, fair-large}
 use Rattle.rules.specs.laws.line.Places.{numberAt, to-place, to-none}
 
 run-turn : (line : List ℕ) (v i : ℕ) → i < length line → digitOf (getD line i 0) < 10 → digitRun v (drop i line) ≡ digitRun (v * 10 + digitOf (getD line i 0)) (drop (i + 1) line)
 unfolding digitRun
 run-turn line v i h s = rw (drop-cons line i 0 h, add-one, lt-ltb (digitOf (getD line i 0)) 10 s)
+
+-- what the test of a byte tells
+pub digit-says : (c : ℕ) (t : Bool) → t ≡ isDigit c → not t ≡ false → (48 ≤ c) × (c ≤ 57) × (c - 48 ≡ digitOf c) × (digitOf c < 10)
+digit-says c t e h =
+    let y : isDigit c ≡ true = sym e ∙ not-false t h in
+    let s : digitOf c < 10 = ltb-true (digitOf c) 10 y in
+    let is : c ≡ 48 + digitOf c = digit-is c s in
+    (omega arith, omega arith, omega arith, s)
+
+pub other-says : (c : ℕ) (t : Bool) → t ≡ isDigit c → not t ≡ true → 10 ≤ digitOf c
+other-says c t e h = ltb-false (digitOf c) 10 (sym e ∙ not-true t h)
 
 -- one turn
 pub run-more : (line : List ℕ) (place v i d : ℕ) → i < length line → d ≡ digitOf (getD line i 0) → d < 10 → digitRun v (drop i line) ≡ digitRun 0 (drop place line) → digitRun (v * 10 + d) (drop (i + 1) line) ≡ digitRun 0 (drop place line)

@@ -3,23 +3,17 @@ use rules::Piece;
 ghost use mathlib.Core.Path.{_≡_};
 ghost use Prim.Native.Nat.{_+_, _≤_};
 ghost use lib.ListN.{length};
-ghost use Rattle.rules.specs.meaning.Number.{digitOf, digits};
+ghost use Rattle.rules.specs.meaning.Number.{isDigit, digits};
 ghost use Rattle.rules.specs.laws.line.Places.{numberAt};
 ghost use Rattle.rules.specs.meaning.Put.{put};
 
 // How many digits a number that is read may have, zeros in front among them; the largest number has as many.
 const MOST_DIGITS: usize = 20;
 
-// The digit that a byte stands for. 10 says that it stands for none: then one test tells digits from the rest.
-fn digit(c: u8) -> u64
-    ensures { λ r. ⌜ r ≡ digitOf c ⌝ }
+fn is_digit(c: u8) -> bool
+    ensures { λ r. ⌜ r ≡ isDigit c ⌝ }
 {
-    if 48 <= c {
-        if c <= 57 {
-            return (c - 48) as u64;
-        }
-    }
-    10
+    48 <= c && c <= 57
 }
 
 // The number that stands at a place of a line, and the place behind it: up to 20 digits, zeros in front among them. A value that leaves 64 bits is refused
@@ -30,10 +24,11 @@ pub(crate) fn read_number(line: &[u8], place: usize) -> Piece
     let mut v: u64 = 0;
     let mut i = place;
     while i < line.len() {
-        let d = digit(line[i]);
-        if 10 <= d {
+        let c = line[i];
+        if !is_digit(c) {
             break;
         }
+        let d = (c - 48) as u64;
         if v > 1844674407370955161 {
             return Piece::Refused;
         }

@@ -10,7 +10,7 @@ use Rattle.rules.specs.meaning.Number.{digitRun}
 use Rattle.rules.specs.laws.line.Numbers.{below}
 use mathlib.Core.Logic.{⊎-elim}
 use denote.Ref.{now}
-use Rattle.lines.proofs.Digits.{run-more, run-end, run-other, refuse-over, refuse-empty, refuse-long, accept}
+use Rattle.lines.proofs.Digits.{digit-says, other-says, run-more, run-end, run-other, refuse-over, refuse-empty, refuse-long, accept}
 use Rattle.lines.proofs.number.read_number.Statement.{statement}
 use Rattle.lines.proofs.number.read_number.Tie as tie
 
@@ -23,14 +23,22 @@ abbrev μ-loop : tie.MeasureT-loop
 loop-holds : tie.Need-loop-holds Inv-loop μ-loop
 loop-holds c = (omega arith, omega arith, omega arith, refl)
 
-shared-slice-read-digit : tie.Need-shared-slice-read-digit Inv-loop μ-loop
-shared-slice-read-digit c = omega arith
+shared-slice-read-c : tie.Need-shared-slice-read-c Inv-loop μ-loop
+shared-slice-read-c c = omega arith
 
-digit-requires : tie.Need-digit-requires Inv-loop μ-loop
-digit-requires c κs = search needs
+is-digit-requires : tie.Need-is-digit-requires Inv-loop μ-loop
+is-digit-requires c κs = search needs
+
+sub-d : tie.Need-sub-d Inv-loop μ-loop
+sub-d c = omega (arith, digit-says _ _ (c .before .is-digit .ensures) (c .if1 .left) .0)
+
+cast-d : tie.Need-cast-d Inv-loop μ-loop
+cast-d c = omega (arith, digit-says _ _ (c .before .is-digit .ensures) (c .if1 .left) .1)
 
 returns : tie.Need-returns Inv-loop μ-loop
-returns c = refuse-over _ _ _ _ _ (c .before .before .before .before .loop-test .taken) (c .before .before .digit .ensures) (c .before .if1 .left) (c .before .before .before .before .before .loop .inv .3) (omega arith)
+returns c =
+    let d = digit-says _ _ (c .before .before .is-digit .ensures) (c .before .if1 .left) in
+    refuse-over _ _ _ _ _ (c .before .before .before .before .loop-test .taken) (d .2) (omega (arith, d .2, d .3)) (c .before .before .before .before .before .loop .inv .3) (omega arith)
 
 mul-t : tie.Need-mul-t Inv-loop μ-loop
 mul-t c = omega arith
@@ -39,7 +47,9 @@ sub-if3 : tie.Need-sub-if3 Inv-loop μ-loop
 sub-if3 c = omega arith
 
 returns-2 : tie.Need-returns-2 Inv-loop μ-loop
-returns-2 c = refuse-over _ _ _ _ _ (c .before .before .before .before .before .loop-test .taken) (c .before .before .before .digit .ensures) (c .before .before .if1 .left) (c .before .before .before .before .before .before .loop .inv .3) (omega arith)
+returns-2 c =
+    let d = digit-says _ _ (c .before .before .before .is-digit .ensures) (c .before .before .if1 .left) in
+    refuse-over _ _ _ _ _ (c .before .before .before .before .before .loop-test .taken) (d .2) (omega (arith, d .2, d .3)) (c .before .before .before .before .before .before .loop .inv .3) (omega arith)
 
 add-v : tie.Need-add-v Inv-loop μ-loop
 add-v c = omega arith
@@ -51,15 +61,16 @@ loop-less : tie.Need-loop-less Inv-loop μ-loop
 loop-less c = omega arith
 
 loop-again : tie.Need-loop-again Inv-loop μ-loop
-loop-again c = (
-  omega arith,
-  omega arith,
-  omega arith,
-  run-more _ (c .before .before .before .before .before .before .before .before .args .place) _ _ _ (c .before .before .before .before .before .loop-test .taken) (c .before .before .before .digit .ensures) (c .before .before .if1 .left) (c .before .before .before .before .before .before .loop .inv .3),
-)
+loop-again c =
+    let d = digit-says _ _ (c .before .before .before .is-digit .ensures) (c .before .before .if1 .left) in (
+      omega arith,
+      omega arith,
+      omega arith,
+      run-more _ (c .before .before .before .before .before .before .before .before .args .place) _ _ _ (c .before .before .before .before .before .loop-test .taken) (d .2) (omega (arith, d .2, d .3)) (c .before .before .before .before .before .before .loop .inv .3),
+    )
 
 halt : (c : tie.Left-loop Inv-loop μ-loop) → digitRun (c .before .loop .v) (drop (c .before .loop .i) (now (c .before .before .before .args .line))) ≡ front (c .before .loop .v) (drop (c .before .loop .i) (now (c .before .before .before .args .line)))
-halt c = ⊎-elim (λ w. run-end _ _ _ (w .left)) (λ w. run-other _ _ _ (w .0 .taken) (omega (arith, w .2 .ensures, w .3 .taken))) (c .loop-test .came)
+halt c = ⊎-elim (λ w. run-end _ _ _ (w .left)) (λ w. run-other _ _ _ (w .0 .taken) (other-says _ _ (w .2 .ensures) (w .3 .taken))) (c .loop-test .came)
 
 -- the loop has read the whole run
 whole : (c : tie.Left-loop Inv-loop μ-loop) → digitRun 0 (drop (c .before .before .before .args .place) (now (c .before .before .before .args .line))) ≡ front (c .before .loop .v) (drop (c .before .loop .i) (now (c .before .before .before .args .line)))
@@ -90,8 +101,10 @@ read-number-spec =
     Inv-loop
     μ-loop
     loop-holds
-    shared-slice-read-digit
-    digit-requires
+    shared-slice-read-c
+    is-digit-requires
+    sub-d
+    cast-d
     returns
     mul-t
     sub-if3

@@ -38,6 +38,16 @@ digit-is c h = go (leb 48 c) (leb c 57) refl refl
     go true false p q = absurd (let k : 10 < 10 = simp (p, q) at h in omega arith)
     go false t p q = absurd (let k : 10 < 10 = simp p at h in omega arith)
 
+-- a digit by its two bounds
+pub digit-test : (c : ℕ) → isDigit c ≡ (leb 48 c && leb c 57)
+unfolding digitOf
+digit-test c =
+    by-test (leb 48 c)
+    (λ p. by-test (leb c 57)
+    (λ q. rw (p, q) (lt-ltb (c - 48) 10 (omega (arith, leb-true c 57 q))))
+    (λ q. rw (p, q)))
+    (λ p. rw p)
+
 -- ---- the text of a number
 up-small : (k n : ℕ) → n < 10 → upTo (suc k) n ≡ (48 + n) ∷ []
 unfolding upTo
