@@ -6,24 +6,22 @@ ghost use lib.ListN.{length};
 ghost use Rattle.rules.specs.laws.line.Places.{textAt};
 ghost use Rattle.rules.specs.meaning.Put.{put};
 
-// The place behind a piece of text, where the piece stands at a place of the line.
+// The place behind a piece of text, where the piece stands at a place of the line. That the line is long enough is asked once, before its bytes.
 pub(crate) fn read_text(line: &[u8], place: usize, text: &[u8]) -> Piece
     requires { ⌜ place ≤ length (now line) ⌝ }
     ensures { λ r. ⌜ r ≡ textAt (now (line .entry)) place (now (text .entry)) ⌝ }
 {
-    let mut i = place;
+    if line.len() - place < text.len() {
+        return Piece::Refused;
+    }
     let mut j = 0;
     while j < text.len() {
-        if i >= line.len() {
+        if line[place + j] != text[j] {
             return Piece::Refused;
         }
-        if line[i] != text[j] {
-            return Piece::Refused;
-        }
-        i += 1;
         j += 1;
     }
-    Piece::Read(0, i)
+    Piece::Read(0, place + j)
 }
 
 // Writes a piece of text at a place, and answers the place behind it.

@@ -1,4 +1,5 @@
 -- What follows from `meaning`.
+pub mod Bits
 pub mod Lengths
 pub mod Serials
 pub mod table

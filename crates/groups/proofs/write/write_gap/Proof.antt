@@ -1,19 +1,13 @@
 -- `groups::write::write_gap`: both bytes of a short one, and else as any number is written. Assumes nothing.
-use mathlib.Core.Bool.{Bool, true, false}
-use Prim.Native.Nat.{_≤_}
 use native.Mathlib.Omega.{arith}
-use mir.Val.{boolByte}
 use borrow.Author.Needs.{needs}
 use lib.Dec.{leb}
 use lib.ListN.{length-set}
+use Rattle.rules.specs.laws.Bits.{bit-small}
 use Rattle.rules.specs.laws.group.Leb.{leb-some}
 use Rattle.groups.proofs.Gaps.{short-gap, long-gap}
 use Rattle.groups.proofs.write.write_gap.Statement.{statement}
 use Rattle.groups.proofs.write.write_gap.Tie as tie
-
-bit : (b : Bool) → boolByte b ≤ 1
-bit true = omega arith
-bit false = omega arith
 
 cast-out : tie.Need-cast-out
 cast-out c = search needs
@@ -22,10 +16,10 @@ cast-out-2 : tie.Need-cast-out-2
 cast-out-2 c = search needs
 
 mul-out : tie.Need-mul-out
-mul-out c = omega (arith, bit (leb 128 (c .before .before .args .n)))
+mul-out c = omega (arith, bit-small (leb 128 (c .before .before .args .n)))
 
 add-out : tie.Need-add-out
-add-out c = omega (arith, bit (leb 128 (c .before .before .args .n)))
+add-out c = omega (arith, bit-small (leb 128 (c .before .before .args .n)))
 
 slice-write-out : tie.Need-slice-write-out
 slice-write-out c = search needs
@@ -46,7 +40,7 @@ cast-result : tie.Need-cast-result
 cast-result c = search needs
 
 add-result-2 : tie.Need-add-result-2
-add-result-2 c = omega (arith, bit (leb 128 (c .before .before .args .n)))
+add-result-2 c = omega (arith, bit-small (leb 128 (c .before .before .args .n)))
 
 same-length : tie.Need-same-length
 same-length c = search needs

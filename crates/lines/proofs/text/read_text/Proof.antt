@@ -1,24 +1,29 @@
--- `lines::text::read_text`. Kept by the loop: the text stands at the first place if and only if its rest stands at this one. Assumes nothing.
+-- `lines::text::read_text`: `Kept` of `Pieces` goes through the loop. Assumes nothing.
 use native.Mathlib.Omega.{arith}
-use mathlib.Core.Path.{_≡_, refl, sym, _∙_}
 use Prim.Native.Nat.{_-_, _≤_}
-use lib.ListN.{length, drop}
-use Rattle.rules.specs.meaning.Text.{behind}
-use Rattle.lines.proofs.Pieces.{behind-turn, text-short, text-other, text-end}
+use lib.ListN.{length}
+use denote.Ref.{now}
+use Rattle.lines.proofs.Pieces.{text-short, Kept, text-begins, text-more, text-other, text-end}
 use Rattle.lines.proofs.text.read_text.Statement.{statement}
 use Rattle.lines.proofs.text.read_text.Tie as tie
 
 abbrev Inv-loop : tie.InvT-loop
-Inv-loop line place text i₀ j₀ i j = (i ≤ length line) × (behind (drop j text) (drop i line) ≡ behind text (drop place line))
+Inv-loop line place text j₀ j = (j ≤ length text) × Kept line place text j
 
 abbrev μ-loop : tie.MeasureT-loop
-μ-loop line place text i₀ j₀ i j = length text - j
+μ-loop line place text j₀ j = length text - j
 
-loop-holds : tie.Need-loop-holds Inv-loop μ-loop
-loop-holds c = (omega arith, refl)
+sub-if1 : tie.Need-sub-if1 Inv-loop μ-loop
+sub-if1 c = omega arith
 
 returns : tie.Need-returns Inv-loop μ-loop
-returns c = text-short _ _ _ _ _ (c .before .before .loop .inv .1) (c .if1 .taken) (c .before .loop-test .taken)
+returns c = text-short _ _ _ (c .if1 .taken)
+
+loop-holds : tie.Need-loop-holds Inv-loop μ-loop
+loop-holds c = (omega arith, text-begins (now (c .before .args .line)) (c .before .args .place) (now (c .before .args .text)))
+
+add-if2 : tie.Need-add-if2 Inv-loop μ-loop
+add-if2 c = omega arith
 
 shared-slice-read-if2 : tie.Need-shared-slice-read-if2 Inv-loop μ-loop
 shared-slice-read-if2 c = omega arith
@@ -27,10 +32,7 @@ shared-slice-read-if2-2 : tie.Need-shared-slice-read-if2-2 Inv-loop μ-loop
 shared-slice-read-if2-2 c = omega arith
 
 returns-2 : tie.Need-returns-2 Inv-loop μ-loop
-returns-2 c = text-other _ _ _ _ _ (c .before .before .before .before .before .loop .inv .1) (c .before .before .before .if1 .left) (c .before .before .before .before .loop-test .taken) (c .if2 .taken)
-
-add-i : tie.Need-add-i Inv-loop μ-loop
-add-i c = omega arith
+returns-2 c = let l = c .before .before .before in text-other _ _ _ _ (l .before .loop .inv .1) (omega arith) (l .loop-test .taken) (c .if2 .taken)
 
 add-j : tie.Need-add-j Inv-loop μ-loop
 add-j c = omega arith
@@ -39,10 +41,13 @@ loop-less : tie.Need-loop-less Inv-loop μ-loop
 loop-less c = omega arith
 
 loop-again : tie.Need-loop-again Inv-loop μ-loop
-loop-again c = (omega arith, sym (behind-turn _ _ _ _ (c .before .before .before .if1 .left) (c .before .before .before .before .loop-test .taken) (c .if2 .left)) ∙ c .before .before .before .before .before .loop .inv .1)
+loop-again c = let l = c .before .before .before in (omega arith, text-more _ _ _ _ (l .before .loop .inv .1) (omega arith) (l .loop-test .taken) (c .if2 .left))
+
+add-t5 : tie.Need-add-t5 Inv-loop μ-loop
+add-t5 c = omega arith
 
 returns-3 : tie.Need-returns-3 Inv-loop μ-loop
-returns-3 c = text-end _ _ _ _ _ (c .before .loop .inv .1) (c .loop-test .left) (c .before .loop .inv .0)
+returns-3 c = text-end _ _ _ _ (c .before .loop .inv .1) (c .loop-test .left) (omega arith)
 
 pub read-text-spec : {M : Type 1} → statement M
 read-text-spec =
@@ -50,13 +55,15 @@ read-text-spec =
     (tie.spec
     Inv-loop
     μ-loop
-    loop-holds
+    sub-if1
     returns
+    loop-holds
+    add-if2
     shared-slice-read-if2
     shared-slice-read-if2-2
     returns-2
-    add-i
     add-j
     loop-less
     loop-again
+    add-t5
     returns-3)

@@ -1,19 +1,14 @@
 -- `merging::turns::settle`: by which id is larger.
 -- Assumes nothing.
-use Prim.Native.Nat.{_≤_}
 use native.Mathlib.Omega.{arith}
-use mathlib.Core.Bool.{Bool, true, false}
+use mathlib.Core.Bool.{true, false}
 use mathlib.Core.Path.{_≡_, _∙_}
 use lib.Dec.{leb}
-use mir.Val.{boolByte}
 use borrow.Author.Needs.{needs}
 use borrow.Author.Tests.{le-leb, lt-leb, lt-ltb, le-ltb}
+use Rattle.rules.specs.laws.Bits.{bit-small}
 use Rattle.merging.proofs.turns.settle.Statement.{statement}
 use Rattle.merging.proofs.turns.settle.Tie as tie
-
-bit : (b : Bool) → boolByte b ≤ 1
-bit true = omega arith
-bit false = omega arith
 
 join-requires : tie.Need-join-requires
 join-requires c κs = search needs
@@ -62,7 +57,7 @@ returns c =
               let off : leb (a .id) (a .mine) ≡ false = lt-leb (a .id) (a .mine) h in
               let on : leb (a .mine) (a .id) ≡ true = le-leb (a .mine) (a .id) (omega arith) in
               (rw off at id, (rw off at length) ∙ (rw off at one), rw off, rw on, rw off at mine, rw (le-ltb (a .id) (a .mine) (omega arith)) at last),
-          (bit (leb (a .id) (a .mine)), bit (leb (a .mine) (a .id))),
+          (bit-small (leb (a .id) (a .mine)), bit-small (leb (a .mine) (a .id))),
         ),
       ),
     )

@@ -1,9 +1,9 @@
 -- What follows for padding: a text without it stays as it is, what is left of any other has none, and a number that is read is its digits with zeros in front.
 -- Assumes nothing.
 use mathlib.Core.Path.{_≡_, refl, sym, ap, _∙_}
-use mathlib.Core.Bool.{Bool, true, false, not, _&&_, _||_, and-false, false≢true}
+use mathlib.Core.Bool.{Bool, true, false, not, _&&_, and-false, false≢true}
 use mathlib.Core.List.{List, [], _∷_, _++_, append-assoc}
-use Prim.Native.Nat.{ℕ, zero, suc, _+_, _-_, _*_, _/_, _%_, _^_, _≤_, _<_}
+use Prim.Native.Nat.{ℕ, zero, suc, _+_, _-_, _*_, _%_, _^_, _≤_, _<_}
 use native.Mathlib.Omega.{arith}
 use borrow.Author.Tests.{ltb-true, lt-ltb, le-ltb, eqb-true, eq-eqb, ne-eqb}
 use lib.Dec.{ltb, eqb}
@@ -11,7 +11,7 @@ use lib.ListN.{length, length-append}
 use Rattle.rules.specs.laws.table.View.{parts}
 use Rattle.rules.specs.meaning.Text.{front}
 use Rattle.rules.specs.meaning.Number.{mostDigits, digits, digitOf, isDigit, startsDigit, digitRun, judged, readNumber}
-use Rattle.rules.specs.meaning.Padding.{isPadding, unpaddedFrom, unpadded, paddedFrom, isPadded, shortFrom, hasShortNumbers}
+use Rattle.rules.specs.meaning.Padding.{isPadding, unpaddedFrom, unpadded, paddedFrom, shortFrom, hasShortNumbers}
 use Rattle.rules.specs.laws.line.Numbers.{below, by-test, digit-is, digits-small, digits-wide, digits-some, run-digits, run-stop, run-grows, run-short, run-front, run-rest, run-takes, run-tens, fair-yes, fair-says, read-says}
 
 -- ---- which byte is padding

@@ -1,7 +1,7 @@
 -- `tally::passes::pass`: by the three ways that the ids compare, each of which settles both tests.
 -- Assumes nothing.
 use Prim.Native.Nat.{ℕ, _≤_, _<_}
-use mathlib.Core.Path.{_≡_, refl, _∙_}
+use mathlib.Core.Path.{_≡_, _∙_}
 use mathlib.Core.Bool.{Bool, true, false, cond, _&&_}
 use mathlib.Core.Logic.{⊎-elim}
 use native.Mathlib.Omega.{arith}
@@ -9,16 +9,9 @@ use lib.Dec.{leb, ltb}
 use mir.Val.{boolByte}
 use borrow.Author.Needs.{needs}
 use borrow.Author.Tests.{le-leb, lt-leb}
+use Rattle.rules.specs.laws.Bits.{bit-is, bit-small}
 use Rattle.tally.proofs.passes.pass.Statement.{statement}
 use Rattle.tally.proofs.passes.pass.Tie as tie
-
-bit : (b : Bool) → boolByte b ≡ cond b 1 0
-bit true = refl
-bit false = refl
-
-small : (b : Bool) → boolByte b ≤ 1
-small true = omega arith
-small false = omega arith
 
 module _ (mine after id next m d : ℕ) (more : Bool) (em : m ≡ cond (leb mine id) after mine) (ed : d ≡ cond (leb id mine) next id) where
   abbrev Passing : (own others mine′ id′ rises : ℕ) → Type 0
@@ -31,14 +24,14 @@ module _ (mine after id next m d : ℕ) (more : Bool) (em : m ≡ cond (leb mine
   below h = settled true false (le-leb mine id (omega arith)) (lt-leb id mine h)
 
   same : mine ≡ id → Passing 1 1 after next (cond more 1 0)
-  same h = rw (bit more) at (settled true true (le-leb mine id (omega arith)) (le-leb id mine (omega arith)))
+  same h = rw (bit-is more) at (settled true true (le-leb mine id (omega arith)) (le-leb id mine (omega arith)))
 
   above : id < mine → Passing 0 1 mine next 0
   above h = settled false true (lt-leb mine id h) (le-leb id mine (omega arith))
 
   passed : (mine < id → Passing 1 0 after id 0) × ((mine ≡ id → Passing 1 1 after next (cond more 1 0)) × ((id < mine → Passing 0 1 mine next 0)
       × ((boolByte (leb mine id) ≤ 1) × (boolByte (leb id mine) ≤ 1) × (boolByte ((leb mine id && leb id mine) && more) ≤ 1))))
-  passed = (below, (same, (above, (small (leb mine id), small (leb id mine), small ((leb mine id && leb id mine) && more)))))
+  passed = (below, (same, (above, (bit-small (leb mine id), bit-small (leb id mine), bit-small ((leb mine id && leb id mine) && more)))))
 
 cast-t21 : tie.Need-cast-t21
 cast-t21 c = search needs
