@@ -224,23 +224,46 @@ fn line(n: [u64; 4]) -> Vec<u8> {
     buffer[..k].to_vec()
 }
 
-fn lines(rows: &mut Vec<Row>, rounds: usize) {
-    let mut r = Random(5);
-    let steps: Vec<Vec<[u64; 4]>> = (0..INPUTS).map(|_| (0..512).map(|_| some_step(&mut r, false)).collect()).collect();
-    let texts: Vec<Vec<Vec<u8>>> = steps.iter().map(|list| list.iter().map(|n| line(*n)).collect()).collect();
-    let bytes = texts.iter().flatten().map(|t| t.len()).sum::<usize>() as f64 / INPUTS as f64;
-    for (n, t) in steps.iter().flatten().zip(texts.iter().flatten()) {
-        let (mut area, mut buffer) = ([0; 32], [0; 83]);
-        assert_eq!((ffi::read_line(t, &mut area), plain::read_line(t), plain::read_line_into_list(t)), (0, Some(*n), Some(*n)));
-        assert_eq!(plain::write_line(*n, &mut buffer), t.len());
-        assert_eq!(&buffer[..t.len()], &t[..]);
+// The same line as a partner writes it, with its id in 20 digits.
+fn partner_line(n: [u64; 4]) -> Vec<u8> {
+    let text = String::from_utf8(line(n)).unwrap();
+    match text.split_once(" id=") {
+        Some((front, _)) => format!("{front} id={:020}", n[3]).into_bytes(),
+        None => text.into_bytes(),
     }
-    measure(rows, "reading step lines", "ns per byte", bytes, INPUTS, rounds, vec![
+}
+
+fn bytes_of(texts: &[Vec<Vec<u8>>]) -> f64 {
+    texts.iter().flatten().map(|t| t.len()).sum::<usize>() as f64 / INPUTS as f64
+}
+
+fn reading(rows: &mut Vec<Row>, rounds: usize, job: &str, steps: &[Vec<[u64; 4]>], texts: &[Vec<Vec<u8>>]) {
+    for (n, t) in steps.iter().flatten().zip(texts.iter().flatten()) {
+        let mut area = [0; 32];
+        assert_eq!((ffi::read_line(t, &mut area), plain::read_line(t), plain::read_line_into_list(t)), (0, Some(*n), Some(*n)));
+    }
+    measure(rows, job, "ns per byte", bytes_of(texts), INPUTS, rounds, vec![
         ("library", Box::new(|i| timed(|| for t in &texts[i] { ffi::read_line(t, black_box(&mut [0; 32])); }))),
         ("split and parse, no allocation", Box::new(|i| timed(|| for t in &texts[i] { black_box(plain::read_line(t)); }))),
         ("split and parse into a list", Box::new(|i| timed(|| for t in &texts[i] { black_box(plain::read_line_into_list(t)); }))),
     ]);
-    measure(rows, "writing step lines", "ns per byte", bytes, INPUTS, rounds, vec![
+}
+
+fn lines(rows: &mut Vec<Row>, rounds: usize) {
+    let mut r = Random(5);
+    let mut some_steps = |small| -> Vec<Vec<[u64; 4]>> { (0..INPUTS).map(|_| (0..512).map(|_| some_step(&mut r, small)).collect()).collect() };
+    let steps = some_steps(false);
+    let texts: Vec<Vec<Vec<u8>>> = steps.iter().map(|list| list.iter().map(|n| line(*n)).collect()).collect();
+    reading(rows, rounds, "reading step lines", &steps, &texts);
+    let partners = some_steps(true);
+    let padded: Vec<Vec<Vec<u8>>> = partners.iter().map(|list| list.iter().map(|n| partner_line(*n)).collect()).collect();
+    reading(rows, rounds, "reading step lines, ids padded to 20 digits", &partners, &padded);
+    for (n, t) in steps.iter().flatten().zip(texts.iter().flatten()) {
+        let mut buffer = [0; 83];
+        assert_eq!(plain::write_line(*n, &mut buffer), t.len());
+        assert_eq!(&buffer[..t.len()], &t[..]);
+    }
+    measure(rows, "writing step lines", "ns per byte", bytes_of(&texts), INPUTS, rounds, vec![
         ("library", Box::new(|i| timed(|| for n in &steps[i] { ffi::write_line(*n, black_box(&mut [0; 83])); }))),
         ("write!", Box::new(|i| timed(|| for n in &steps[i] { plain::write_line(*n, black_box(&mut [0; 83])); }))),
     ]);

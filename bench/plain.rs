@@ -221,7 +221,7 @@ pub fn members_by_map(map: &HashMap<u64, u64>, ids: &[u64], answers: &mut [u8]) 
 // ---- lines ----
 
 fn number(text: &str) -> Option<u64> {
-    if (text.len() > 1 && text.starts_with('0')) || text.starts_with('+') {
+    if text.len() > 20 || text.starts_with('+') {
         return None;
     }
     text.parse().ok()

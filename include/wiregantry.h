@@ -261,9 +261,11 @@ uint32_t wg_members(const uint64_t *table, size_t n_words, const uint64_t *ids, 
  *   step=merge from=N to=N
  *   step=deliver slot=S          likewise again and lose
  *
- * Numbers are decimal, 0 to 18446744073709551615, with no sign and no leading zero; one space between the pairs and no other byte. Whether
- * a run has such a site or slot is not judged here.
- * Refuses in this order: 13 exactly when n_area is below 32; 11 the n bytes are not such a line (a byte 10 anywhere included). */
+ * Numbers are decimal, 0 to 18446744073709551615, with no sign; one space between the pairs and no other byte. Any of the numbers may have
+ * zeros in front, up to 20 digits in all: `id=00000000000000000007` is read as `id=7`. wg_write_line writes none of them, so a line that is read
+ * and written again has the same step with no padding. Whether a run has such a site or slot is not judged here.
+ * Refuses in this order: 13 exactly when n_area is below 32; 11 the n bytes are not such a line (a byte 10 anywhere included, and a number of
+ * 21 digits, even if they are zeros). */
 uint32_t wg_read_line(const uint8_t *line, size_t n, uint8_t *area, size_t n_area);
 
 /* Whether wg_write_line would write this step into room bytes: 11 exactly when kind is not 1 to 8 or an unused number is not 0, then 13 when
