@@ -1,6 +1,6 @@
 -- Worked cases, as one table under one statement, and the lines as the document lists them. Assumes nothing.
 use mathlib.Core.Path.{_≡_, refl}
-use mathlib.Core.Bool.{Bool, true, false, _&&_}
+use mathlib.Core.Bool.{Bool, true, false, not, _&&_}
 use mathlib.Core.List.{List, [], _∷_}
 use Prim.Native.Nat.{ℕ}
 use Prim.Native.String.{String}
@@ -8,7 +8,7 @@ use lib.Dec.{eqb}
 use lib.ListN.{replicate}
 use Rattle.rules.specs.meaning.Text.{ascii, behind}
 use Rattle.rules.specs.meaning.Number.{upTo, digits, digitOf, startsDigit, digitRun, fair, judged, readNumber}
-use Rattle.rules.specs.meaning.Padding.{isPadding, unpaddedFrom, unpadded, paddedFrom, isPadded}
+use Rattle.rules.specs.meaning.Padding.{isPadding, unpaddedFrom, unpadded, paddedFrom, isPadded, shortFrom, hasShortNumbers}
 use Rattle.rules.specs.meaning.Lines.{lead, field, textOf, namesStep, firstOf, kindOf, readField, numbersOf}
 use Rattle.rules.specs.meaning.Refusals.{firstGiven}
 use Rattle.rules.specs.meaning.Put.{put}
@@ -28,7 +28,7 @@ both s k a b i = same (textOf k a b i) (ascii s) && gives (numbersOf (ascii s)) 
 
 -- the text is read as the four numbers, and without its padding it is their line
 padded : String → ℕ → ℕ → ℕ → ℕ → Bool
-padded s k a b i = isPadded (ascii s) && gives (numbersOf (ascii s)) k a b i && same (unpadded (ascii s)) (textOf k a b i)
+padded s k a b i = isPadded (ascii s) && hasShortNumbers (ascii s) && gives (numbersOf (ascii s)) k a b i && same (unpadded (ascii s)) (textOf k a b i)
 
 -- padding, and nothing else, is dropped, whatever the text is
 drops : String → String → Bool
@@ -40,6 +40,10 @@ isRefused NoLine = true
 
 no-line : String → Bool
 no-line s = isRefused (numbersOf (ascii s))
+
+-- it is not, though without its padding it is a line: a number has too many digits
+too-long : String → Bool
+too-long s = isRefused (numbersOf (ascii s)) && not (hasShortNumbers (ascii s)) && not (isRefused (numbersOf (unpadded (ascii s))))
 
 pub cases : List Bool
 cases =
@@ -57,11 +61,11 @@ cases =
     ∷ no-line "step=add node= id=7"
     ∷ no-line "step=add node=0 id=18446744073709551616"
     ∷ no-line "step=add node=0 id=99999999999999999999"
-    ∷ no-line "step=add node=0 id=018446744073709551615"
-    ∷ no-line "step=add node=0 id=000000000000000000000"
-    ∷ no-line "step=add node=000000000000000000001 id=7"
-    ∷ no-line "step=send from=1 to=000000000000000000002 id=7"
-    ∷ no-line "step=deliver slot=000000000000000000000"
+    ∷ too-long "step=add node=0 id=018446744073709551615"
+    ∷ too-long "step=add node=0 id=000000000000000000000"
+    ∷ too-long "step=add node=000000000000000000001 id=7"
+    ∷ too-long "step=send from=1 to=000000000000000000002 id=7"
+    ∷ too-long "step=deliver slot=000000000000000000000"
     ∷ no-line "step=add node=0 id=7 "
     ∷ no-line " step=add node=0 id=7"
     ∷ no-line "step=add node=0  id=7"
@@ -86,7 +90,7 @@ cases =
     ∷ []
 
 pub worked : all cases ≡ true
-unfolding cases both padded drops isPadded paddedFrom unpadded unpaddedFrom isPadding startsDigit no-line isRefused gives textOf field lead digits upTo numbersOf kindOf firstOf behind readField readNumber judged digitRun fair digitOf
+unfolding cases both padded too-long drops hasShortNumbers shortFrom isPadded paddedFrom unpadded unpaddedFrom isPadding startsDigit no-line isRefused gives textOf field lead digits upTo numbersOf kindOf firstOf behind readField readNumber judged digitRun fair digitOf
 worked = refl
 
 -- ---- the reader that C calls: "An area under 32 bytes gives 13, then 11 is tried", and what stands in the area afterwards; the check: 11, then 13

@@ -2,7 +2,7 @@
 -- Assumes nothing.
 use mathlib.Core.Path.{_≡_, refl, sym, ap, _∙_}
 use mathlib.Core.Bool.{Bool, true, false, not, _&&_, and-false, false≢true}
-use mathlib.Core.List.{List, [], _∷_, _++_, append-assoc}
+use mathlib.Core.List.{List, [], _∷_, _++_, append-assoc, append-nil}
 use Prim.Native.Nat.{ℕ, zero, suc, _+_, _-_, _*_, _%_, _^_, _≤_, _<_}
 use native.Mathlib.Omega.{arith}
 use borrow.Author.Tests.{ltb-true, lt-ltb, le-ltb, eqb-true, eq-eqb, ne-eqb}
@@ -11,8 +11,8 @@ use lib.ListN.{length, length-append}
 use Rattle.rules.specs.laws.table.View.{parts}
 use Rattle.rules.specs.meaning.Text.{front}
 use Rattle.rules.specs.meaning.Number.{mostDigits, digits, digitOf, isDigit, startsDigit, digitRun, judged, readNumber}
-use Rattle.rules.specs.meaning.Padding.{isPadding, unpaddedFrom, unpadded, paddedFrom, shortFrom, hasShortNumbers}
-use Rattle.rules.specs.laws.line.Numbers.{below, by-test, digit-is, digits-small, digits-wide, digits-some, run-digits, run-stop, run-grows, run-short, run-front, run-rest, run-takes, run-tens, fair-yes, fair-says, read-says}
+use Rattle.rules.specs.meaning.Padding.{isPadding, unpaddedFrom, unpadded, paddedFrom, isPadded, shortFrom, hasShortNumbers}
+use Rattle.rules.specs.laws.line.Numbers.{below, by-test, digit-is, digits-small, digits-wide, digits-some, run-digits, run-stop, run-grows, run-short, run-front, run-rest, run-takes, run-tens, fair-yes, fair-says, read-digits, read-says}
 
 -- ---- which byte is padding
 -- it is a zero with a digit behind it, and no digit of its number before it
@@ -263,6 +263,14 @@ module _ (xs : List ℕ) (v : ℕ) (rest : List ℕ) (e : readNumber xs ≡ fron
       let q : front 0 xs ≡ front v rest = sym (run-stop 0 xs n) ∙ is-run in
       let r : xs ≡ rest = cc in
       absurd (omega (arith, is-fair .0, ap length r)))
+
+-- the text of a number has no padding
+pub digits-bare : (n : ℕ) → n < 2 ^ 64 → isPadded (digits n) ≡ false
+unfolding isPadded unpadded unpaddedFrom startsDigit
+digits-bare n h =
+    let u : unpadded (digits n ++ []) ≡ digits n ++ [] = number-unpadded (digits n ++ []) n [] (read-digits n [] h refl) in
+    let v : unpadded (digits n) ≡ digits n = ap unpadded (sym (append-nil (digits n))) ∙ u ∙ append-nil (digits n) in
+    ap isPadded (sym v) ∙ unpadded-none false (digits n)
 
 -- ---- and back: a text that is a number but for padding is read as that number
 digits-start : (n : ℕ) (xs : List ℕ) → n < 10 ^ mostDigits → startsDigit (digits n ++ xs) ≡ true
