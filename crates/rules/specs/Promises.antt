@@ -144,14 +144,14 @@ read-is-written-unpadded line step h =
     let again = StepLines.read-again line step h in
     (r .text, again .0, again .1, r .fits)
 
--- "up to 20 digits with leading zeros, as long as the value fits 64 bits", in every number of a line and no other text: a text is read as a step exactly where
--- it is the line of that step but for padding, and no number of it has more than 20 digits
-pub padded-lines-are-read : (line : List ℕ) (step : Step) → Fits step
-    → (stepOf line ≡ Is step → (unpadded line ≡ lineOf step) × (hasShortNumbers line ≡ true))
-    × (unpadded line ≡ lineOf step → hasShortNumbers line ≡ true → stepOf line ≡ Is step)
-padded-lines-are-read line step fits = (
-  (λ h. let r = StepLines.read-step line step h in (sym (r .text), r .short)),
-  (λ e short. StepLines.padded-step line step e fits short),
+-- "up to 20 digits with leading zeros, as long as the value fits 64 bits": a text is read as a step exactly where it is the line of that step but for
+-- padding, and no number of it has more than 20 digits
+pub padded-lines-are-read : (line : List ℕ) (step : Step)
+    → (stepOf line ≡ Is step → (unpadded line ≡ lineOf step) × (hasShortNumbers line ≡ true) × Fits step)
+    × ((unpadded line ≡ lineOf step) × (hasShortNumbers line ≡ true) × Fits step → stepOf line ≡ Is step)
+padded-lines-are-read line step = (
+  (λ h. let r = StepLines.read-step line step h in (sym (r .text), r .short, r .fits)),
+  (λ h. StepLines.padded-step line step (h .0) (h .2) (h .1)),
 )
 
 -- "a line that is read is written back byte for byte", as document 01 has it, stays true of lines without padding

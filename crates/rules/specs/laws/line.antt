@@ -1,7 +1,9 @@
 -- Step lines.
 pub mod Numbers
 pub mod Padding
+pub mod PaddedNumbers
 pub mod Lines
+pub mod PaddedLines
 pub mod Places
 pub mod Steps
 pub mod Writing

@@ -5,7 +5,7 @@ use Prim.Native.Nat.{ℕ, _+_}
 use lib.Dec.{ltb, eqb}
 use Rattle.rules.specs.meaning.Number.{mostDigits, isDigit, startsDigit}
 
--- a byte is padding where it is a zero, no digit of its number stands before it, and a digit stands behind it: so the last zero of `00` is none
+-- a byte is padding where it is a zero, nothing of its number but padding stands before it, and a digit stands behind it: so the last zero of `00` is none
 unfoldable pub isPadding : Bool → ℕ → List ℕ → Bool
 isPadding inside c xs = not inside && eqb c 48 && startsDigit xs
 

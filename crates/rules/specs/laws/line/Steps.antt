@@ -17,7 +17,8 @@ use Rattle.rules.specs.meaning.Padding.{unpadded, isPadded, hasShortNumb
 use Rattle.rules.specs.laws.line.Numbers.{by-test, digits-length}
 use Rattle.rules.specs.laws.line.Padding.{unpadded-same, unpadded-none}
 use Rattle.rules.specs.meaning.Lines.{lead, toName, idName, hasSecond, hasId, field, textOf, namesStep, numbersOf}
-use Rattle.rules.specs.laws.line.Lines.{fieldRoom, lineRoom, written-read, read-written, shown-read, step-says}
+use Rattle.rules.specs.laws.line.Lines.{written-read, step-says}
+use Rattle.rules.specs.laws.line.PaddedLines.{fieldRoom, lineRoom, read-written, shown-read}
 use Rattle.rules.specs.meaning.Kinds.{numbers}
 use Rattle.rules.specs.meaning.StepLines.{steps, stepFor, stepIn, lineOf, stepOf, Fits}
 
