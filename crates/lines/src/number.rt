@@ -3,7 +3,7 @@ use rules::Piece;
 ghost use mathlib.Core.Path.{_≡_};
 ghost use Prim.Native.Nat.{_+_, _≤_};
 ghost use lib.ListN.{length};
-ghost use Rattle.rules.specs.meaning.Number.{isDigit, digits};
+ghost use Rattle.rules.specs.meaning.Number.{mostDigits, isDigit, digits};
 ghost use Rattle.rules.specs.laws.line.Places.{numberAt};
 ghost use Rattle.rules.specs.meaning.Put.{put};
 
@@ -51,7 +51,7 @@ pub(crate) fn read_number(line: &[u8], place: usize) -> Piece
 // How many digits a number has. Four go with each division, as a division costs more than a comparison; a single digit, the common case of a
 // site, costs one comparison.
 pub fn places(n: u64) -> usize
-    ensures { λ r. ⌜ (r ≡ length (digits n)) × (r ≤ 20) ⌝ }
+    ensures { λ r. ⌜ (r ≡ length (digits n)) × (r ≤ mostDigits) ⌝ }
 {
     if n < 10 {
         return 1;

@@ -39,7 +39,7 @@ use Rattle.rules.specs.meaning.Calls.{namedAnswer, Called}
 use Rattle.rules.specs.meaning.Bursts.{asksOf, stepsIn, Handled}
 use Rattle.rules.specs.meaning.Members.{Answered}
 use Rattle.rules.specs.meaning.Writing.{Filled}
-use Rattle.rules.specs.meaning.Reports.{Told, Printed}
+use Rattle.rules.specs.meaning.Reports.{printedOf, Told, Printed}
 use Rattle.rules.specs.meaning.Groups.{Written, Entered}
 use Rattle.rules.specs.meaning.Events.{Event, Happened}
 use Rattle.rules.specs.laws.table.Counts as Counts
@@ -62,6 +62,7 @@ use Rattle.rules.specs.laws.history.Room as Room
 use Rattle.rules.specs.laws.history.Groups as Absorbed
 use Rattle.rules.specs.laws.line.Lines as Lines
 use Rattle.rules.specs.laws.line.Steps as StepLines
+use Rattle.rules.specs.laws.report.Bare as Bare
 use Rattle.rules.specs.laws.run.Bursts as Bursts
 use Rattle.rules.specs.laws.Members as Members
 use Rattle.rules.specs.laws.Determined as Determined
@@ -164,6 +165,10 @@ one-step-two-lines = StepLines.one-step-two-lines
 
 pub no-line-of-two-steps : (line : List ℕ) (s t : Step) → stepOf line ≡ Is s → stepOf line ≡ Is t → s ≡ t
 no-line-of-two-steps line s t p q = StepLines.one-step-two-lines line line s t p q .1 refl
+
+-- and no number that the report program prints has padding, whatever its input is
+pub reports-have-no-padding : (input : List ℕ) → isPadded (printedOf input) ≡ false
+reports-have-no-padding = Bare.print-has-none
 
 -- ---- demands 2 and 3: "Start fresh and take any list of steps, refused ones among them", and of the other operations
 module _ (run : Run) (first : ℕ) (s : State) (fresh : freshRefusal run (length (s .words)) (length (s .slots)) ≡ 0) where

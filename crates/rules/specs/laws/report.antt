@@ -4,3 +4,4 @@ pub mod Fits
 pub mod Places
 pub mod Pieces
 pub mod Steps
+pub mod Bare

@@ -106,7 +106,7 @@ run-grows v (c ∷ xs) w rest e =
     (λ s. let g : v * 10 + digitOf c ≤ w = run-grows (v * 10 + digitOf c) xs w rest (simp (lt-ltb (digitOf c) 10 s) at e) in omega arith)
     (λ l. let q : front v (c ∷ xs) ≡ front w rest = simp (le-ltb (digitOf c) 10 l) at e in let p : v ≡ w = cc in omega arith)
 
--- the rest is no longer than the text, and does not begin with a digit
+-- what is left is no longer than the text
 pub run-short : (v : ℕ) (xs : List ℕ) (w : ℕ) (rest : List ℕ) → digitRun v xs ≡ front w rest → length rest ≤ length xs
 unfolding digitRun
 run-short v [] w rest e = let p : [] ≡ rest = cc in omega (arith, ap length p)

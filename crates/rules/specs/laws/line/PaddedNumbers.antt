@@ -2,7 +2,7 @@
 -- Assumes nothing.
 use mathlib.Core.Path.{_≡_, refl, sym, ap, _∙_}
 use mathlib.Core.Bool.{Bool, true, false, and-false, false≢true}
-use mathlib.Core.List.{List, [], _∷_, _++_, append-assoc, append-nil}
+use mathlib.Core.List.{List, [], _∷_, _++_, append-assoc}
 use Prim.Native.Nat.{ℕ, zero, suc, _+_, _-_, _*_, _%_, _^_, _≤_, _<_}
 use native.Mathlib.Omega.{arith}
 use borrow.Author.Tests.{ltb-true, lt-ltb, le-ltb, eq-eqb, ne-eqb}
@@ -13,7 +13,7 @@ use Rattle.rules.specs.meaning.Text.{front}
 use Rattle.rules.specs.meaning.Number.{mostDigits, digits, digitOf, isDigit, startsDigit, digitRun, judged, readNumber}
 use Rattle.rules.specs.meaning.Padding.{isPadding, unpaddedFrom, unpadded, isPadded, shortFrom, hasShortNumbers}
 use Rattle.rules.specs.laws.line.Numbers.{below, by-test, digit-is, digits-small, digits-wide, digits-some, run-digits, run-stop, run-grows, run-short, run-front, run-rest, run-takes, run-tens, fair-yes, fair-says, read-digits, read-says}
-use Rattle.rules.specs.laws.line.Padding.{dropped, kept, unpadded-stop, starts-same, unpadded-none}
+use Rattle.rules.specs.laws.line.Padding.{dropped, kept, unpadded-stop, starts-same, unpadded-same, unpadded-none}
 
 -- ---- a run of digits
 -- read on from a number, every digit of it is kept
@@ -144,12 +144,12 @@ module _ (xs : List ℕ) (v : ℕ) (rest : List ℕ) (e : readNumber xs ≡ fron
       absurd (omega (arith, is-fair .0, ap length r)))
 
 -- the text of a number has no padding
-pub digits-bare : (n : ℕ) → n < 2 ^ 64 → isPadded (digits n) ≡ false
-unfolding isPadded unpadded unpaddedFrom startsDigit
-digits-bare n h =
-    let u : unpadded (digits n ++ []) ≡ digits n ++ [] = number-unpadded (digits n ++ []) n [] (read-digits n [] h refl) in
-    let v : unpadded (digits n) ≡ digits n = ap unpadded (sym (append-nil (digits n))) ∙ u ∙ append-nil (digits n) in
-    ap isPadded (sym v) ∙ unpadded-none false (digits n)
+pub digits-bare : (n : ℕ) (rest : List ℕ) → n < 2 ^ 64 → startsDigit rest ≡ false → isPadded rest ≡ false → isPadded (digits n ++ rest) ≡ false
+unfolding isPadded unpadded
+digits-bare n rest h stop b =
+    let u : unpadded (digits n ++ rest) ≡ digits n ++ rest =
+    number-unpadded (digits n ++ rest) n rest (read-digits n rest h stop) ∙ ap (λ (t : List ℕ). digits n ++ t) (unpadded-same false rest b) in
+    ap isPadded (sym u) ∙ unpadded-none false (digits n ++ rest)
 
 -- ---- and back: a text that is a number but for padding is read as that number
 digits-start : (n : ℕ) (xs : List ℕ) → n < 10 ^ mostDigits → startsDigit (digits n ++ xs) ≡ true

@@ -11,7 +11,7 @@ use lib.ListN.{length}
 use Rattle.rules.specs.laws.table.View.{parts}
 use Rattle.rules.specs.meaning.Text.{front}
 use Rattle.rules.specs.meaning.Number.{digitOf, isDigit, startsDigit}
-use Rattle.rules.specs.meaning.Padding.{isPadding, unpaddedFrom, unpadded, paddedFrom, shortFrom, hasShortNumbers}
+use Rattle.rules.specs.meaning.Padding.{isPadding, unpaddedFrom, unpadded, paddedFrom, isPadded, shortFrom, hasShortNumbers}
 use Rattle.rules.specs.laws.line.Numbers.{by-test}
 
 -- ---- which byte is padding
@@ -117,6 +117,11 @@ pub text-short : (l xs : List ℕ) → hasNoDigit l ≡ true → hasShortNumbers
 unfolding hasShortNumbers shortFrom
 text-short [] xs h = refl
 text-short (c ∷ l) xs h = let n = no-digit c l h in rw (n .0) (text-short l xs (n .1))
+
+pub text-bare : (l xs : List ℕ) → hasNoDigit l ≡ true → isPadded xs ≡ false → isPadded (l ++ xs) ≡ false
+unfolding isPadded paddedFrom
+text-bare [] xs h b = b
+text-bare (c ∷ l) xs h b = let n = no-digit c l h in rw (other-stays false c (l ++ xs) (n .0), n .0) (text-bare l xs (n .1) b)
 
 -- and back: where it stands in front of what is left, it stands in front of the text
 pub text-shown : (l xs ys : List ℕ) → hasNoDigit l ≡ true → unpadded xs ≡ l ++ ys → (r : List ℕ) × (xs ≡ l ++ r) × (unpadded r ≡ ys)

@@ -75,21 +75,21 @@ ledger-within l w =
     simp (length-append) (omega (arith, digits-length (l .sent), digits-length (l .copied), digits-length (l .absorbed), digits-length (l .lost), digits-length w))
 
 -- a table has at most one entry for two words, and shows no more
-held-within : (t : List ℕ) → 2 * held t ≤ length t
+pub held-within : (t : List ℕ) → 2 * held t ≤ length t
 unfolding held
 held-within [] = omega arith
 held-within (w ∷ []) = omega arith
 held-within (e ∷ zero ∷ t) = omega arith
 held-within (e ∷ suc n ∷ t) = let h = held-within t in omega arith
 
-shown-within : (t : List ℕ) → 2 * shown t ≤ length t
+pub shown-within : (t : List ℕ) → 2 * shown t ≤ length t
 unfolding shown
 shown-within [] = omega arith
 shown-within (w ∷ []) = omega arith
 shown-within (e ∷ n ∷ t) = by-test (listed n) (λ odd. rw odd (let h = shown-within t in omega arith)) (λ even. rw even (let h = shown-within t in omega arith))
 
 -- a site's table has at most 16 words, whatever the words are
-table-within : (ws : List ℕ) (k : ℕ) → length (tableAt reportRun ws k) ≤ 16
+pub table-within : (ws : List ℕ) (k : ℕ) → length (tableAt reportRun ws k) ≤ 16
 unfolding tableAt
 table-within ws k = rw (length-take (width reportRun) (drop (k * width reportRun) ws)) (omega arith)
 

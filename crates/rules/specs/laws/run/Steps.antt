@@ -14,7 +14,7 @@ use borrow.Author.Tests.{leb-false, eqb-false, not-false}
 use Rattle.rules.specs.declared.Run.{Run}
 use Rattle.rules.specs.declared.Parcel.{Parcel}
 use Rattle.rules.specs.declared.Step.{Step}
-use Rattle.rules.specs.declared.Step.the-variants.{Add, Remove, Send, Merge, Deliver, Again, Lose}
+use Rattle.rules.specs.declared.Step.the-variants.{Add, Remove, Query, Send, Merge, Deliver, Again, Lose}
 use Rattle.rules.specs.meaning.Lengths.{M}
 use Rattle.rules.specs.meaning.Table.{lengthOf}
 use Rattle.rules.specs.laws.table.View.{parts}
@@ -113,6 +113,11 @@ module _ (run : Run) (s : State) where
   pub remove-own : (k e : ℕ) → refusalOf run s (Remove k e) ≡ 0 → k < run .sites
   unfolding effect
   remove-own k e h = leb-false _ _ (pass 2 _ _ (accepted-own run s (Remove k e) h) .0)
+
+  -- an accepted query: likewise
+  pub query-own : (k e : ℕ) → refusalOf run s (Query k e) ≡ 0 → k < run .sites
+  unfolding effect
+  query-own k e h = leb-false _ _ (pass 2 _ _ (accepted-own run s (Query k e) h) .0)
 
   -- an accepted merge: both sites are of the run
   pub merge-own : (f t : ℕ) → refusalOf run s (Merge f t) ≡ 0 → (f < run .sites) × (t < run .sites)
