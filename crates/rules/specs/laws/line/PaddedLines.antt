@@ -152,18 +152,31 @@ field-shown true name xs n ys h fits z stop e s =
     (g .0, ap (λ (f : Front). next f (λ _ r. readNumber r)) (ap (behind name) (l .1) ∙ behind-is name (l .0)) ∙ g .1, g .2, g .3)
 field-shown false name xs n ys h fits z stop e s = (xs, ap (λ (k : ℕ). front k xs) (sym (z refl)), e, s)
 
+-- the last of four readings leaves nothing
+all-read : (xs r s t u : List ℕ) (kind first second i : ℕ) → kindOf xs ≡ front kind r → readNumber r ≡ front first s → readField (hasSecond kind) toName s ≡ front second t → readField (hasId kind) idName t ≡ front i u → u ≡ [] → numbersOf xs ≡ Numbers kind first second i
+all-read xs r s t u kind first second i e1 e2 e3 e4 e5 = at-end xs kind r e1 first s e2 second t e3 i u e4 ∙ ap (ended kind first second i) e5
+
+-- a lead in front, by the text that is left
+lead-shown : (xs ys : List ℕ) (kind : ℕ) → 1 ≤ kind → kind ≤ 8 → unpadded xs ≡ lead kind ++ ys → hasShortNumbers xs ≡ true → (r : List ℕ) × (kindOf xs ≡ front kind r) × (unpadded r ≡ ys) × (hasShortNumbers r ≡ true)
+lead-shown xs ys kind p q e s =
+    let l = text-shown (lead kind) xs ys (lead-plain kind) e in
+    (l .0, ap kindOf (l .1) ∙ kind-lead kind (l .0) p q, l .2, sym (text-short (lead kind) (l .0) (lead-plain kind)) ∙ ap hasShortNumbers (sym (l .1)) ∙ s)
+
+-- the id, behind which nothing stands
+id-shown : (b : Bool) (xs : List ℕ) (n : ℕ) → n < 2 ^ 64 → (b ≡ false → n ≡ 0) → unpadded xs ≡ field b idName n → hasShortNumbers xs ≡ true → (r : List ℕ) × (readField b idName xs ≡ front n r) × (r ≡ [])
+unfolding startsDigit
+id-shown b xs n fits z e s =
+    let g = field-shown b idName xs n [] id-plain fits z refl (e ∙ sym (append-nil (field b idName n))) s in
+    (g .0, g .1, unpadded-empty (g .0) (g .2))
+
 pub shown-read : (xs : List ℕ) (kind first second i : ℕ) → namesStep kind second i ≡ true → first < 2 ^ 64 → second < 2 ^ 64 → i < 2 ^ 64 → unpadded xs ≡ textOf kind first second i → hasShortNumbers xs ≡ true → numbersOf xs ≡ Numbers kind first second i
-unfolding textOf startsDigit
+unfolding textOf
 shown-read xs kind first second i names hf hs hi e short =
-    let s = step-says kind second i names in
+    let n = step-says kind second i names in
     let r3 = field (hasId kind) idName i in
     let r2 = field (hasSecond kind) toName second ++ r3 in
-    let l = text-shown (lead kind) xs (digits first ++ r2) (lead-plain kind) e in
-    let a = number-shown (l .0) first r2 hf (fields-stop (hasSecond kind) (hasId kind) second i) (l .2) (sym (text-short (lead kind) (l .0) (lead-plain kind)) ∙ ap hasShortNumbers (sym (l .1)) ∙ short) in
-    let b = field-shown (hasSecond kind) toName (a .0) second r3 to-plain hs (s .2) (field-stops (hasId kind) i) (a .2) (a .3) in
-    let c = field-shown (hasId kind) idName (b .0) i [] id-plain hi (s .3) none (b .2 ∙ sym (append-nil r3)) (b .3) in
-    at-end xs kind (l .0) (ap kindOf (l .1) ∙ kind-lead kind (l .0) (s .0) (s .1)) first (a .0) (a .1) second (b .0) (b .1) i (c .0) (c .1)
-    ∙ ap (ended kind first second i) (unpadded-empty (c .0) (c .2))
-  where
-    none : startsDigit [] ≡ false
-    none = refl
+    let a = lead-shown xs (digits first ++ r2) kind (n .0) (n .1) e short in
+    let b = number-shown (a .0) first r2 hf (fields-stop (hasSecond kind) (hasId kind) second i) (a .2) (a .3) in
+    let c = field-shown (hasSecond kind) toName (b .0) second r3 to-plain hs (n .2) (field-stops (hasId kind) i) (b .2) (b .3) in
+    let d = id-shown (hasId kind) (c .0) i hi (n .3) (c .2) (c .3) in
+    all-read xs (a .0) (b .0) (c .0) (d .0) kind first second i (a .1) (b .1) (c .1) (d .1) (d .2)
