@@ -1,7 +1,9 @@
 #!/usr/bin/env python3
-# The report of document 01, written from its text alone: used to make the stored output of crates/cases_report, and to compare other inputs by hand.
-#   report_model.py < INPUT        prints the report of the input
-#   report_model.py --cases        prints what crates/cases_report must print
+# The report of document 01 and the requests, written from their text alone: it made the stored outputs of crates/cases_report and crates/cases_lines,
+# and tools/test-reports holds them and the samples to it.
+#   report_model.py < INPUT             prints the report of the input
+#   report_model.py --cases             prints what crates/cases_report must print
+#   report_model.py --lines < LINES     prints what crates/cases_lines must print
 import re
 import sys
 
@@ -188,6 +190,28 @@ OVER = [
 ]
 
 
+# ---- the lines of crates/cases_lines: the refusal, or the four numbers and the line written from them
+def four_numbers(kind, numbers):
+    number = [name for name, _ in FORMS].index(kind) + 1
+    first, rest = numbers[0], numbers[1:]
+    second = rest[0] if kind in ("send", "merge") else 0
+    return number, first, second, numbers[-1] if kind in ("add", "remove", "query", "send") else 0
+
+
+def written(kind, numbers):
+    names = {"send": ("from", "to", "id"), "merge": ("from", "to"), "deliver": ("slot",), "again": ("slot",), "lose": ("slot",)}.get(kind, ("node", "id"))
+    return " ".join(["step=" + kind] + ["%s=%d" % pair for pair in zip(names, numbers)])
+
+
+def lines(text):
+    out = []
+    for count, line in enumerate(text.split(b"\n")[:-1], 1):
+        step = step_of(line)
+        said = "refused=11" if step is None else "kind=%d first=%d second=%d id=%d " % four_numbers(*step) + written(*step)
+        out.append("line=%d %s\n" % (count, said))
+    return "".join(out).encode()
+
+
 def checksum(text):
     s = 0
     for b in text:
@@ -207,4 +231,5 @@ def cases():
 
 
 if __name__ == "__main__":
-    sys.stdout.buffer.write(cases() if sys.argv[1:] == ["--cases"] else report(sys.stdin.buffer.read()))
+    asked = sys.argv[1:]
+    sys.stdout.buffer.write(cases() if asked == ["--cases"] else (lines if asked == ["--lines"] else report)(sys.stdin.buffer.read()))
