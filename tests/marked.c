@@ -508,6 +508,6 @@ int main(void) {
     padded_lines();
     for (k = 0; k < 19; k++)
         if (wg_refusal_text(k)[0] == 0) wrong = 1;
-    if (!wrong) printf("marked: P1 to P12, the burst, the serials, the groups, the sample report, the longest line and the longest report are as the rules say\n");
+    if (!wrong) printf("marked: P1 to P12, the burst, the serials, the groups, the sample report, the longest line, padded lines and the longest report are as the rules say\n");
     return wrong;
 }

@@ -25,9 +25,10 @@ uint32_t model_members(const uint64_t *table, size_t n_words, const uint64_t *id
                        uint8_t *answers, size_t n_answers);
 uint32_t model_read_line(const uint8_t *line, size_t n, uint8_t *area, size_t n_area);
 uint32_t model_check_line(uint64_t kind, uint64_t first, uint64_t second, uint64_t id, size_t room);
-/* The line without the zeros in front of its numbers; `bare` has as many bytes as `line`. Returns how many are left. */
-size_t model_unpadded(const uint8_t *line, size_t n, uint8_t *bare);
 size_t model_write_line(uint64_t kind, uint64_t first, uint64_t second, uint64_t id, uint8_t *buffer, size_t room);
 uint32_t model_report(const uint8_t *input, size_t n, uint8_t *out, size_t room, size_t *written);
+
+/* What no call of the library does: the line without the zeros in front of its numbers. `bare` has as many bytes as `line`. Returns how many are left. */
+size_t model_unpadded(const uint8_t *line, size_t n, uint8_t *bare);
 
 #endif

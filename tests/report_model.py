@@ -8,18 +8,18 @@ import re
 import sys
 
 SITES, CAPACITY, SLOTS, LARGEST, LIMIT = 3, 8, 8, 4294967295, 32768
-NUMBER = rb"([0-9]{1,20})"
-FORMS = [
-    ("add", rb"step=add node=N id=N"), ("remove", rb"step=remove node=N id=N"), ("query", rb"step=query node=N id=N"),
-    ("send", rb"step=send from=N to=N id=N"), ("merge", rb"step=merge from=N to=N"),
-    ("deliver", rb"step=deliver slot=N"), ("again", rb"step=again slot=N"), ("lose", rb"step=lose slot=N"),
-]
-FORMS = [(kind, re.compile(form.replace(b"=N", b"=" + NUMBER))) for kind, form in FORMS]
+NUMBER = "([0-9]{1,20})"
+FORMS = {
+    "add": "step=add node=N id=N", "remove": "step=remove node=N id=N", "query": "step=query node=N id=N",
+    "send": "step=send from=N to=N id=N", "merge": "step=merge from=N to=N",
+    "deliver": "step=deliver slot=N", "again": "step=again slot=N", "lose": "step=lose slot=N",
+}
+PATTERNS = {kind: re.compile(form.replace("=N", "=" + NUMBER).encode()) for kind, form in FORMS.items()}
 
 
 def step_of(line):
-    for kind, form in FORMS:
-        found = form.fullmatch(line)
+    for kind, pattern in PATTERNS.items():
+        found = pattern.fullmatch(line)
         if found:
             numbers = [int(n) for n in found.groups()]
             return None if any(n > 2**64 - 1 for n in numbers) else (kind, numbers)
@@ -192,15 +192,14 @@ OVER = [
 
 # ---- the lines of crates/cases_lines: the refusal, or the four numbers and the line written from them
 def four_numbers(kind, numbers):
-    number = [name for name, _ in FORMS].index(kind) + 1
-    first, rest = numbers[0], numbers[1:]
-    second = rest[0] if kind in ("send", "merge") else 0
-    return number, first, second, numbers[-1] if kind in ("add", "remove", "query", "send") else 0
+    form = FORMS[kind]
+    second = numbers[1] if " to=" in form else 0
+    i = numbers[-1] if " id=" in form else 0
+    return list(FORMS).index(kind) + 1, numbers[0], second, i
 
 
 def written(kind, numbers):
-    names = {"send": ("from", "to", "id"), "merge": ("from", "to"), "deliver": ("slot",), "again": ("slot",), "lose": ("slot",)}.get(kind, ("node", "id"))
-    return " ".join(["step=" + kind] + ["%s=%d" % pair for pair in zip(names, numbers)])
+    return FORMS[kind].replace("=N", "=%d") % tuple(numbers)
 
 
 def lines(text):

@@ -7,11 +7,11 @@
 static uint64_t some_number(rng *r, int small, uint64_t few) {
     if (small) return below(r, few);
     switch (below(r, 5)) {
-    case 4: return 0;
     case 0: return edge(r);
     case 1: return below(r, 20);
     case 2: return UINT64_MAX - below(r, 3);
-    default: return any_width(r, 0);
+    case 3: return any_width(r, 0);
+    default: return 0;
     }
 }
 

@@ -72,18 +72,22 @@ field-suffix true name xs n rest e =
 field-suffix false name xs n rest e = ([], let k : xs ≡ rest = cc in k)
 
 -- ---- the kind
+-- what holds of each of the eight
+pub by-kind : (P : ℕ → Type 0) → P 1 → P 2 → P 3 → P 4 → P 5 → P 6 → P 7 → P 8 → (k : ℕ) → 1 ≤ k → k ≤ 8 → P k
+by-kind P a b c d e f g h zero p q = absurd (omega arith)
+by-kind P a b c d e f g h (suc zero) p q = a
+by-kind P a b c d e f g h (suc (suc zero)) p q = b
+by-kind P a b c d e f g h (suc (suc (suc zero))) p q = c
+by-kind P a b c d e f g h (suc (suc (suc (suc zero)))) p q = d
+by-kind P a b c d e f g h (suc (suc (suc (suc (suc zero))))) p q = e
+by-kind P a b c d e f g h (suc (suc (suc (suc (suc (suc zero)))))) p q = f
+by-kind P a b c d e f g h (suc (suc (suc (suc (suc (suc (suc zero))))))) p q = g
+by-kind P a b c d e f g h (suc (suc (suc (suc (suc (suc (suc (suc zero)))))))) p q = h
+by-kind P a b c d e f g h (suc (suc (suc (suc (suc (suc (suc (suc (suc k))))))))) p q = absurd (omega arith)
+
 pub kind-lead : (k : ℕ) (rest : List ℕ) → 1 ≤ k → k ≤ 8 → kindOf (lead k ++ rest) ≡ front k rest
 unfolding kindOf firstOf behind lead
-kind-lead zero rest p q = absurd (omega arith)
-kind-lead (suc zero) rest p q = refl
-kind-lead (suc (suc zero)) rest p q = refl
-kind-lead (suc (suc (suc zero))) rest p q = refl
-kind-lead (suc (suc (suc (suc zero)))) rest p q = refl
-kind-lead (suc (suc (suc (suc (suc zero))))) rest p q = refl
-kind-lead (suc (suc (suc (suc (suc (suc zero)))))) rest p q = refl
-kind-lead (suc (suc (suc (suc (suc (suc (suc zero))))))) rest p q = refl
-kind-lead (suc (suc (suc (suc (suc (suc (suc (suc zero)))))))) rest p q = refl
-kind-lead (suc (suc (suc (suc (suc (suc (suc (suc (suc k))))))))) rest p q = absurd (omega arith)
+kind-lead k rest p q = by-kind (λ (j : ℕ). kindOf (lead j ++ rest) ≡ front j rest) refl refl refl refl refl refl refl refl k p q
 
 first-text : (k : ℕ) (ls : List (List ℕ)) (xs : List ℕ) (j : ℕ) (rest : List ℕ) → firstOf k ls xs ≡ front j rest → (k ≤ j) × (j < k + length ls) × (xs ≡ getD ls (j - k) [] ++ rest)
 unfolding firstOf

@@ -2,7 +2,7 @@
 use mathlib.Core.Path.{_≡_, refl, sym, ap, _∙_}
 use mathlib.Core.Bool.{Bool, true, false, cond}
 use mathlib.Core.List.{List, [], _++_, append-assoc, append-nil}
-use Prim.Native.Nat.{ℕ, zero, suc, _+_, _^_, _≤_, _<_}
+use Prim.Native.Nat.{ℕ, _+_, _^_, _≤_, _<_}
 use native.Mathlib.Omega.{arith}
 use borrow.Author.Tests.{eq-eqb, le-leb}
 use lib.Dec.{eqb}
@@ -14,7 +14,7 @@ use Rattle.rules.specs.laws.line.Padding.{hasNoDigit, unpadded-empty, te
 use Rattle.rules.specs.meaning.Lines.{lead, toName, idName, hasSecond, hasId, field, textOf, namesStep, kindOf, readField, ended, numbersOf}
 use Rattle.rules.specs.declared.Line.the-variants.{Numbers, NoLine}
 use Rattle.rules.specs.laws.line.PaddedNumbers.{number-unpadded, number-short, number-room, number-fits, number-shown}
-use Rattle.rules.specs.laws.line.Lines.{behind-is, behind-text, next-says, front-cases, or-is, field-stops, fields-stop, kind-lead, kind-text, no-kind, no-first, no-second, no-id, at-end, ended-says, step-says}
+use Rattle.rules.specs.laws.line.Lines.{behind-is, behind-text, next-says, front-cases, or-is, field-stops, fields-stop, by-kind, kind-lead, kind-text, no-kind, no-first, no-second, no-id, at-end, ended-says, step-says}
 
 -- ---- what was taken from the front of a text
 -- the text of it without padding, whether its numbers are short, and how many bytes it has at most
@@ -68,18 +68,9 @@ field-fits true name xs n rest e =
 field-fits false name xs n rest e = let k : 0 ≡ n = cc in (omega arith, λ _. sym k)
 
 -- no name in a line has a digit
-lead-plain : (k : ℕ) → hasNoDigit (lead k) ≡ true
+lead-plain : (k : ℕ) → 1 ≤ k → k ≤ 8 → hasNoDigit (lead k) ≡ true
 unfolding hasNoDigit lead digitOf
-lead-plain zero = refl
-lead-plain (suc zero) = refl
-lead-plain (suc (suc zero)) = refl
-lead-plain (suc (suc (suc zero))) = refl
-lead-plain (suc (suc (suc (suc zero)))) = refl
-lead-plain (suc (suc (suc (suc (suc zero))))) = refl
-lead-plain (suc (suc (suc (suc (suc (suc zero)))))) = refl
-lead-plain (suc (suc (suc (suc (suc (suc (suc zero))))))) = refl
-lead-plain (suc (suc (suc (suc (suc (suc (suc (suc zero)))))))) = refl
-lead-plain (suc (suc (suc (suc (suc (suc (suc (suc (suc k))))))))) = refl
+lead-plain k p q = by-kind (λ (j : ℕ). hasNoDigit (lead j) ≡ true) refl refl refl refl refl refl refl refl k p q
 
 to-plain : hasNoDigit toName ≡ true
 unfolding hasNoDigit digitOf
@@ -116,7 +107,7 @@ from-parts xs kind first second i r s t e1 e2 e3 e4 =
     let second-is = field-fits (hasSecond kind) toName s second t e3 in
     let id-is = field-fits (hasId kind) idName t i [] e4 in
     let took : Took (lead kind ++ r) (textOf kind first second i) [] (lineRoom kind) =
-    took-both _ (lead kind) r _ [] _ _ (took-text (lead kind) r (lead-plain kind))
+    took-both _ (lead kind) r _ [] _ _ (took-text (lead kind) r (lead-plain kind (p .0) (p .1)))
     (took-both r (digits first) s _ [] _ _ (took-number r first s e2)
     (took-both s _ t _ [] _ _ (took-field (hasSecond kind) toName s second t to-plain e3)
     (took-field (hasId kind) idName t i [] id-plain e4))) in
@@ -159,8 +150,9 @@ all-read xs r s t u kind first second i e1 e2 e3 e4 e5 = at-end xs kind r e1 fir
 -- a lead in front, by the text that is left
 lead-shown : (xs ys : List ℕ) (kind : ℕ) → 1 ≤ kind → kind ≤ 8 → unpadded xs ≡ lead kind ++ ys → hasShortNumbers xs ≡ true → (r : List ℕ) × (kindOf xs ≡ front kind r) × (unpadded r ≡ ys) × (hasShortNumbers r ≡ true)
 lead-shown xs ys kind p q e s =
-    let l = text-shown (lead kind) xs ys (lead-plain kind) e in
-    (l .0, ap kindOf (l .1) ∙ kind-lead kind (l .0) p q, l .2, sym (text-short (lead kind) (l .0) (lead-plain kind)) ∙ ap hasShortNumbers (sym (l .1)) ∙ s)
+    let plain = lead-plain kind p q in
+    let l = text-shown (lead kind) xs ys plain e in
+    (l .0, ap kindOf (l .1) ∙ kind-lead kind (l .0) p q, l .2, sym (text-short (lead kind) (l .0) plain) ∙ ap hasShortNumbers (sym (l .1)) ∙ s)
 
 -- the id, behind which nothing stands
 id-shown : (b : Bool) (xs : List ℕ) (n : ℕ) → n < 2 ^ 64 → (b ≡ false → n ≡ 0) → unpadded xs ≡ field b idName n → hasShortNumbers xs ≡ true → (r : List ℕ) × (readField b idName xs ≡ front n r) × (r ≡ [])

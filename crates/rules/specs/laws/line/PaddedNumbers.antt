@@ -3,7 +3,8 @@
 use mathlib.Core.Path.{_≡_, refl, sym, ap, _∙_}
 use mathlib.Core.Bool.{Bool, true, false, and-false, false≢true}
 use mathlib.Core.List.{List, [], _∷_, _++_, append-assoc}
-use Prim.Native.Nat.{ℕ, zero, suc, _+_, _-_, _*_, _%_, _^_, _≤_, _<_}
+use Prim.Native.Nat.{ℕ, _+_, _-_, _*_, _%_, _^_, _≤_, _<_}
+use native.Mathlib.Nat.{pow-le-pow-right}
 use native.Mathlib.Omega.{arith}
 use borrow.Author.Tests.{ltb-true, lt-ltb, le-ltb, eq-eqb, ne-eqb}
 use lib.Dec.{ltb, eqb}
@@ -160,11 +161,7 @@ digits-start n xs h =
     absurd (omega (arith, run-short n xs 0 (digits n ++ xs) (sym q), length-append (digits n) xs, digits-some n h)))
 
 below-tens : (k w : ℕ) → k ≤ mostDigits → w < 10 ^ k → w < 10 ^ mostDigits
-below-tens k w h l = omega (arith, l, tens k (mostDigits - k) (omega arith))
-  where
-    tens : (i j : ℕ) → i + j ≡ mostDigits → 10 ^ i ≤ 10 ^ mostDigits
-    tens i zero e = let q : i ≡ mostDigits = omega arith in rw q (omega arith)
-    tens i (suc j) e = let q = tens (suc i) j (omega arith) in omega arith
+below-tens k w h l = omega (arith, l, pow-le-pow-right {n = 10} (omega arith) {i = k} {j = mostDigits} h)
 
 pub number-shown : (xs : List ℕ) (n : ℕ) (ys : List ℕ) → n < 2 ^ 64 → startsDigit ys ≡ false → unpadded xs ≡ digits n ++ ys → hasShortNumbers xs ≡ true → (r : List ℕ) × (readNumber xs ≡ front n r) × (unpadded r ≡ ys) × (hasShortNumbers r ≡ true)
 unfolding readNumber judged unpadded hasShortNumbers

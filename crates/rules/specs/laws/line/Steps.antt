@@ -17,7 +17,7 @@ use Rattle.rules.specs.meaning.Padding.{unpadded, isPadded, hasShortNumb
 use Rattle.rules.specs.laws.line.Numbers.{by-test, digits-length}
 use Rattle.rules.specs.laws.line.Padding.{unpadded-same, unpadded-none}
 use Rattle.rules.specs.meaning.Lines.{lead, toName, idName, hasSecond, hasId, field, textOf, namesStep, numbersOf}
-use Rattle.rules.specs.laws.line.Lines.{written-read, step-says}
+use Rattle.rules.specs.laws.line.Lines.{by-kind, written-read, step-says}
 use Rattle.rules.specs.laws.line.PaddedLines.{fieldRoom, lineRoom, read-written, shown-read}
 use Rattle.rules.specs.meaning.Kinds.{numbers}
 use Rattle.rules.specs.meaning.StepLines.{steps, stepFor, stepIn, lineOf, stepOf, Fits}
@@ -142,16 +142,8 @@ line-cases NoLine f g = f refl
 -- ---- "The longest line has 83 bytes"
 room-within : (kind : ℕ) → 1 ≤ kind → kind ≤ 8 → lineRoom kind ≤ 83
 unfolding lineRoom fieldRoom lead
-room-within zero p q = absurd (omega arith)
-room-within (suc zero) p q = omega arith
-room-within (suc (suc zero)) p q = omega arith
-room-within (suc (suc (suc zero))) p q = omega arith
-room-within (suc (suc (suc (suc zero)))) p q = omega arith
-room-within (suc (suc (suc (suc (suc zero))))) p q = omega arith
-room-within (suc (suc (suc (suc (suc (suc zero)))))) p q = omega arith
-room-within (suc (suc (suc (suc (suc (suc (suc zero))))))) p q = omega arith
-room-within (suc (suc (suc (suc (suc (suc (suc (suc zero)))))))) p q = omega arith
-room-within (suc (suc (suc (suc (suc (suc (suc (suc (suc k))))))))) p q = absurd (omega arith)
+room-within kind p q =
+    by-kind (λ (k : ℕ). lineRoom k ≤ 83) (omega arith) (omega arith) (omega arith) (omega arith) (omega arith) (omega arith) (omega arith) (omega arith) kind p q
 
 field-within : (b : Bool) (name : List ℕ) (n : ℕ) → length (field b name n) ≤ fieldRoom b name
 unfolding field fieldRoom
