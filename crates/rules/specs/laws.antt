@@ -6,6 +6,7 @@ pub mod table
 pub mod group
 pub mod run
 pub mod history
+pub mod repair
 pub mod Put
 pub mod line
 pub mod Members

@@ -19,6 +19,7 @@ pub mod Put
 pub mod Groups
 pub mod Events
 pub mod Histories
+pub mod Repairs
 pub mod Number
 pub mod Padding
 pub mod Lines

@@ -14,7 +14,7 @@ use Rattle.rules.specs.laws.run.Sites.{tables-by}
 one-pair-more : (c : ℕ) → 2 * suc c ≡ suc (suc (2 * c))
 one-pair-more c = omega arith
 
-all-unused : (c : ℕ) → Unused (replicate (2 * c) 0)
+pub all-unused : (c : ℕ) → Unused (replicate (2 * c) 0)
 all-unused zero = none
 all-unused (suc c) = rw (one-pair-more c) (pair (all-unused c))
 

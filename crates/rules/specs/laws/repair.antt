@@ -1,0 +1,2 @@
+-- The order of repairs: request 6.
+pub mod Tables

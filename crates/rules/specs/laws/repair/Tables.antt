@@ -1,0 +1,196 @@
+-- The order of repairs, at one table: tables and groups whose ids fit it together are all taken in, and what comes of them goes by their entries alone. The
+-- laws follow from THE LAW and from those of the join.
+-- Assumes nothing.
+use Prim.Native.Nat.{ℕ, zero, suc, _*_, _≤_}
+use native.Mathlib.Nat.{le-refl, le-trans}
+use native.Mathlib.Omega.{arith}
+use mathlib.Core.Bool.{Bool, true, false, _&&_, cond, false≢true}
+use mathlib.Core.Path.{_≡_, refl, sym, ap, _∙_}
+use mathlib.Core.List.{List, [], _∷_, _++_}
+use lib.ListN.{length, length-replicate}
+use lib.Dec.{leb, eqb}
+use borrow.Author.Tests.{leb-true, le-ltb, eq-eqb}
+use Rattle.rules.specs.meaning.Lengths.{M, join}
+use Rattle.rules.specs.meaning.Table.{SoundTable, sound, capacity, lengthOf, held, heldMerged, rises}
+use Rattle.rules.specs.meaning.Operations.{accepted, answer, mergeRefusal, mergeAnswer, mergeTable}
+use Rattle.rules.specs.meaning.Steps.{Entry, entriesOf, idsOf}
+use Rattle.rules.specs.meaning.Histories.{largest, samePairs, among, distinct}
+use Rattle.rules.specs.meaning.Repairs.{TableOf, emptyTable, entriesOfAll, idsAmong, fitTogether, areSound, takenIn, allTaken}
+use Rattle.rules.specs.laws.Lengths.{join-commutes, join-associates}
+use Rattle.rules.specs.laws.table.Order.{Side, Side.below, Side.same, Side.above, side}
+use Rattle.rules.specs.laws.table.View.{Sound.rest, parts, say}
+use Rattle.rules.specs.laws.table.Law.{law, of-unused}
+use Rattle.rules.specs.laws.table.Update.{held-fits}
+use Rattle.rules.specs.laws.table.Merge.{still, still-room}
+use Rattle.rules.specs.laws.table.Operations.{room-accepted, merge-accepted, merge-sound, merge-length, merge-of}
+use Rattle.rules.specs.laws.run.Zeros.{all-unused}
+use Rattle.rules.specs.laws.history.Climbing.{among-same, among-other}
+use Rattle.rules.specs.laws.history.Distinct.{AllAmong, among-either, distinct-grows}
+use Rattle.rules.specs.laws.history.Held.{ids-distinct, needed-for-all, held-among, among-held}
+use Rattle.rules.specs.laws.history.Pairs.{largest-same, largest-other, largest-append, largest-entries, same-largest}
+use Rattle.rules.specs.laws.history.Rising.{risen, risen-count, risen-among}
+
+-- ---- the ids of what is named
+-- a pair that has a length has its id among them
+pub pairs-among : (ps : List Entry) (x : ℕ) → 1 ≤ largest ps x → among x (idsAmong ps) ≡ true
+unfolding largest idsAmong
+pairs-among [] x h = absurd (omega arith)
+pairs-among (p ∷ ps) x h = go (side (p .id) x) (pairs-among ps x)
+  where
+    other : (p .id ≡ x → ⊥) → (1 ≤ largest ps x → among x (idsAmong ps) ≡ true) → among x (p .id ∷ idsAmong ps) ≡ true
+    other ne ih = among-other x (p .id) (idsAmong ps) (λ q. ne (sym q)) ∙ ih (omega (arith, largest-other p ps x ne))
+
+    go : Side (p .id) x → (1 ≤ largest ps x → among x (idsAmong ps) ≡ true) → among x (p .id ∷ idsAmong ps) ≡ true
+    go (below q) ih = other (omega arith) ih
+    go (above q) ih = other (omega arith) ih
+    go (same q) ih = rw (← q) (among-same (p .id) (idsAmong ps))
+
+-- where they fit together they are no more than the capacity
+pub fit-few : (c : ℕ) (named : List (List ℕ)) → fitTogether c named ≡ true → distinct (idsAmong (entriesOfAll named)) ≤ c
+unfolding fitTogether
+fit-few c named h = leb-true _ _ h
+
+-- ---- a table or a group whose ids are among some
+abbrev pub Inside : List ℕ → List ℕ → Type 0
+Inside ids t = (x : ℕ) → 1 ≤ lengthOf t x → among x ids ≡ true
+
+-- the first of some, beside the others
+pub largest-first : (t : List ℕ) (named : List (List ℕ)) → SoundTable t → (x : ℕ) → largest (entriesOfAll (t ∷ named)) x ≡ join (lengthOf t x) (largest (entriesOfAll named) x)
+unfolding entriesOfAll
+largest-first t named ok x = rw (← largest-entries M t ok x) (largest-append (entriesOf t) (entriesOfAll named) x)
+
+-- what has no length above the largest of all that is named has its ids among theirs
+pub covered-inside : (named : List (List ℕ)) (t : List ℕ) → ((x : ℕ) → lengthOf t x ≤ largest (entriesOfAll named) x) → Inside (idsAmong (entriesOfAll named)) t
+covered-inside named t covered x some = pairs-among (entriesOfAll named) x (le-trans some (covered x))
+
+-- ---- one merge, where there is room for the ids of both
+pub record Joined (c : ℕ) (ids t s : List ℕ) : Type 0 where
+  pub taken : mergeRefusal t s ≡ accepted
+  pub table : TableOf c (mergeTable t s)
+  pub of : (x : ℕ) → lengthOf (mergeTable t s) x ≡ join (lengthOf t x) (lengthOf s x)
+  pub inside : Inside ids (mergeTable t s)
+
+module _ (c : ℕ) (ids : List ℕ) (few : distinct ids ≤ c) where
+  -- its ids are among those that there is room for, so it is accepted
+  merge-fits : (t s : List ℕ) → TableOf c t → SoundTable s → Inside ids t → Inside ids s → mergeRefusal t s ≡ accepted
+  unfolding mergeRefusal
+  merge-fits t s table ok in-t in-s =
+      let all : distinct (idsOf s ++ idsOf t) ≤ distinct ids = distinct-grows _ _ (among-either (idsOf s) (idsOf t) ids (λ x p. in-s x (among-held M s ok x p)) (λ x p. in-t x (among-held M t (table .1) x p))) in
+      room-accepted t (heldMerged t s) (omega (arith, few, all, needed-for-all M t s (table .1) ok, table .0))
+
+  pub joined : (t s : List ℕ) → TableOf c t → SoundTable s → Inside ids t → Inside ids s → Joined c ids t s
+  joined t s table ok in-t in-s =
+      let taken = merge-fits t s table ok in-t in-s in
+      let of = merge-of M t s (table .1) ok taken in
+      record {
+        taken = taken;
+        table = (merge-length M t s (table .1) ok ∙ table .0, merge-sound M t s (table .1) ok);
+        of = of;
+        inside = λ x h. either-inside x (lengthOf t x) refl (in-t x) (λ some. in-s x (omega (arith, of x)));
+      }
+    where
+      either-inside : (x n : ℕ) → lengthOf t x ≡ n → (1 ≤ lengthOf t x → among x ids ≡ true) → (lengthOf t x ≡ 0 → among x ids ≡ true) → among x ids ≡ true
+      either-inside x zero q own other = other q
+      either-inside x (suc n) q own other = own (omega arith)
+
+-- two tables of one capacity with the same lengths are one
+pub one-table : (c : ℕ) (t u : List ℕ) → TableOf c t → TableOf c u → ((x : ℕ) → lengthOf t x ≡ lengthOf u x) → t ≡ u
+one-table c t u a b agree = law M (a .1) (b .1) (a .0 ∙ sym (b .0)) agree
+
+-- ---- a merge that brings nothing new: no length rises, and the table stays
+module _ (t s : List ℕ) (ok : SoundTable t) (other : SoundTable s) (covered : (x : ℕ) → lengthOf s x ≤ lengthOf t x) where
+  none-risen : risen t s ≡ []
+  none-risen = go (risen t s) refl
+    where
+      go : (ids : List ℕ) → risen t s ≡ ids → ids ≡ []
+      go [] q = refl
+      go (x ∷ ids) q = absurd (false≢true (sym (le-ltb _ _ (covered x)) ∙ sym (risen-among M t s other x) ∙ (rw q (among-same x ids))))
+
+  pub nothing-new : (mergeAnswer t s ≡ answer accepted 0) × (mergeTable t s ≡ t)
+  nothing-new =
+      let none : rises t s ≡ 0 = sym (risen-count t s) ∙ ap length none-risen in
+      let taken = merge-accepted t s (still-room M t s ok other none) in
+      (taken .0 ∙ ap (answer accepted) none, taken .1 ∙ still M t s ok other none)
+
+-- ---- all that is named, taken in one after the other
+pub record Taken (c : ℕ) (t : List ℕ) (named : List (List ℕ)) : Type 0 where
+  pub all : allTaken t named ≡ true
+  pub table : TableOf c (takenIn t named)
+  pub of : (x : ℕ) → lengthOf (takenIn t named) x ≡ join (lengthOf t x) (largest (entriesOfAll named) x)
+
+take-all : (c : ℕ) (ids : List ℕ) → distinct ids ≤ c → (named : List (List ℕ)) → areSound named ≡ true → ((x : ℕ) → 1 ≤ largest (entriesOfAll named) x → among x ids ≡ true)
+    → (t : List ℕ) → TableOf c t → Inside ids t → Taken c t named
+unfolding areSound allTaken takenIn entriesOfAll largest
+take-all c ids few [] sounds in-all t table in-t = record { all = refl; table = table; of = λ x. omega arith }
+take-all c ids few (s ∷ named) sounds in-all t table in-t =
+    let ok = parts (sound M s) _ sounds in
+    let first = largest-first s named (ok .0) in
+    let one = joined c ids few t s table (ok .0) in-t (λ x h. in-all x (omega (arith, first x))) in
+    let rest = take-all c ids few named (ok .1) (λ x h. in-all x (omega (arith, first x))) (mergeTable t s) (one .table) (one .inside) in
+    record { all = rw (one .taken) (rest .all); table = rest .table; of = λ x. omega (arith, rest .of x, one .of x, first x) }
+
+-- ---- the laws of the request
+module _ (c : ℕ) where
+  -- "merging a table with an equal one changes nothing"
+  pub equal-changes-nothing : (a : List ℕ) → TableOf c a → (mergeAnswer a a ≡ answer accepted 0) × (mergeTable a a ≡ a)
+  equal-changes-nothing a ta = nothing-new a a (ta .1) (ta .1) (λ x. le-refl (lengthOf a x))
+
+  -- "either one merged into the other gives the same table"
+  pub either-way : (a b : List ℕ) → TableOf c a → TableOf c b → fitTogether c (a ∷ b ∷ []) ≡ true
+      → (mergeRefusal a b ≡ accepted) × (mergeRefusal b a ≡ accepted) × (mergeTable a b ≡ mergeTable b a)
+  either-way a b ta tb fit =
+      let named = a ∷ b ∷ [] in
+      let of-a = largest-first a (b ∷ []) (ta .1) in
+      let of-b = largest-first b [] (tb .1) in
+      let in-a = covered-inside named a (λ x. omega (arith, of-a x)) in
+      let in-b = covered-inside named b (λ x. omega (arith, of-a x, of-b x)) in
+      let merge = joined c (idsAmong (entriesOfAll named)) (fit-few c named fit) in
+      let ab = merge a b ta (tb .1) in-a in-b in
+      let ba = merge b a tb (ta .1) in-b in-a in
+      (ab .taken, ba .taken, one-table c _ _ (ab .table) (ba .table) (λ x. ab .of x ∙ join-commutes (lengthOf a x) (lengthOf b x) ∙ sym (ba .of x)))
+
+  -- "three may be grouped in either way"
+  pub three-either-way : (a b d : List ℕ) → TableOf c a → TableOf c b → TableOf c d → fitTogether c (a ∷ b ∷ d ∷ []) ≡ true
+      → (mergeRefusal a b ≡ accepted) × (mergeRefusal (mergeTable a b) d ≡ accepted) × (mergeRefusal b d ≡ accepted) × (mergeRefusal a (mergeTable b d) ≡ accepted)
+      × (mergeTable (mergeTable a b) d ≡ mergeTable a (mergeTable b d))
+  three-either-way a b d ta tb td fit =
+      let named = a ∷ b ∷ d ∷ [] in
+      let of-a = largest-first a (b ∷ d ∷ []) (ta .1) in
+      let of-b = largest-first b (d ∷ []) (tb .1) in
+      let of-d = largest-first d [] (td .1) in
+      let in-a = covered-inside named a (λ x. omega (arith, of-a x)) in
+      let in-b = covered-inside named b (λ x. omega (arith, of-a x, of-b x)) in
+      let in-d = covered-inside named d (λ x. omega (arith, of-a x, of-b x, of-d x)) in
+      let merge = joined c (idsAmong (entriesOfAll named)) (fit-few c named fit) in
+      let ab = merge a b ta (tb .1) in-a in-b in
+      let bd = merge b d tb (td .1) in-b in-d in
+      let left = merge (mergeTable a b) d (ab .table) (td .1) (ab .inside) in-d in
+      let right = merge a (mergeTable b d) ta (bd .table .1) in-a (bd .inside) in
+      (ab .taken, left .taken, bd .taken, right .taken, one-table c _ _ (left .table) (right .table) (λ x. grouped (lengthOf a x) (lengthOf b x) (lengthOf d x) (left .of x) (ab .of x) (right .of x) (bd .of x)))
+    where
+      grouped : (a b d : ℕ) {ab bd left right : ℕ} → left ≡ join ab d → ab ≡ join a b → right ≡ join a bd → bd ≡ join b d → left ≡ right
+      grouped a b d p q r s = rw (p, q, r, s) (join-associates a b d)
+
+  -- "the empty table changes nothing", taken in and taking in
+  pub empty-changes-nothing : (a : List ℕ) → TableOf c a
+      → (mergeAnswer a (emptyTable c) ≡ answer accepted 0) × (mergeTable a (emptyTable c) ≡ a) × (mergeRefusal (emptyTable c) a ≡ accepted) × (mergeTable (emptyTable c) a ≡ a)
+  empty-changes-nothing a ta =
+      let none = of-unused (all-unused c) in
+      let te : TableOf c (emptyTable c) = (length-replicate {A = ℕ} (2 * c) 0, say (rest (all-unused c))) in
+      let out = nothing-new a (emptyTable c) (ta .1) (te .1) (λ x. omega (arith, none x)) in
+      let few : distinct (idsOf a) ≤ c = omega (arith, ids-distinct M a (ta .1), held-fits M a 0 (ta .1), ta .0) in
+      let into = joined c (idsOf a) few (emptyTable c) a te (ta .1) (λ x h. absurd (omega (arith, none x))) (held-among M a (ta .1)) in
+      (out .0, out .1, into .taken, one-table c _ _ (into .table) ta (λ x. omega (arith, into .of x, none x)))
+
+  -- "Groups absorbed in any order, or twice, likewise leave the same table", and whole tables among them: where the set of entries is the same
+  pub any-order : (t : List ℕ) (xs ys : List (List ℕ)) → TableOf c t → areSound xs ≡ true → areSound ys ≡ true → samePairs (entriesOfAll xs) (entriesOfAll ys) ≡ true
+      → fitTogether c (t ∷ xs) ≡ true → (allTaken t xs ≡ true) × (allTaken t ys ≡ true) × (takenIn t xs ≡ takenIn t ys)
+  any-order t xs ys table sx sy alike fit =
+      let ids = idsAmong (entriesOfAll (t ∷ xs)) in
+      let few = fit-few c (t ∷ xs) fit in
+      let first = largest-first t xs (table .1) in
+      let agree = same-largest (entriesOfAll xs) (entriesOfAll ys) alike in
+      let in-t = covered-inside (t ∷ xs) t (λ x. omega (arith, first x)) in
+      let one = take-all c ids few xs sx (λ x h. pairs-among _ x (omega (arith, first x))) t table in-t in
+      let other = take-all c ids few ys sy (λ x h. pairs-among _ x (omega (arith, first x, agree x))) t table in-t in
+      (one .all, other .all, one-table c _ _ (one .table) (other .table) (λ x. omega (arith, one .of x, other .of x, agree x)))

@@ -1,0 +1,102 @@
+-- Repairs: tables and groups taken in one after the other, at one table and in a run, and when all that is named fits together.
+-- Assumes nothing.
+use Prim.Native.Nat.{ℕ, _*_}
+use mathlib.Core.Path.{_≡_}
+use mathlib.Core.Bool.{Bool, true, _&&_, not, cond}
+use mathlib.Core.List.{List, [], _∷_, _++_}
+use lib.ListN.{length, replicate}
+use lib.Dec.{leb, ltb, eqb}
+use Rattle.rules.specs.declared.Run.{Run}
+use Rattle.rules.specs.declared.Step.the-variants.{Merge}
+use Rattle.rules.specs.meaning.Lengths.{M}
+use Rattle.rules.specs.meaning.Table.{sound, SoundTable}
+use Rattle.rules.specs.meaning.Operations.{accepted, mergeRefusal, mergeTable}
+use Rattle.rules.specs.meaning.States.{State, tableAt}
+use Rattle.rules.specs.meaning.Steps.{Entry, entriesOf}
+use Rattle.rules.specs.meaning.Groups.{entriesIn, formsNone}
+use Rattle.rules.specs.meaning.Events.{Event, takes, absorbs, afterEvent}
+use Rattle.rules.specs.meaning.Histories.{isAccepted, distinct}
+
+-- ---- tables and groups, each a list of words, id then length
+-- "tables of one capacity", as 01 lays them out
+abbrev pub TableOf : ℕ → List ℕ → Type 0
+TableOf c t = (length t ≡ 2 * c) × SoundTable t
+
+abbrev pub emptyTable : ℕ → List ℕ
+emptyTable c = replicate (2 * c) 0
+
+-- the entries of all that is named, and their ids
+unfoldable pub entriesOfAll : List (List ℕ) → List Entry
+entriesOfAll [] = []
+entriesOfAll (t ∷ named) = entriesOf t ++ entriesOfAll named
+
+unfoldable pub idsAmong : List Entry → List ℕ
+idsAmong [] = []
+idsAmong (p ∷ ps) = p .id ∷ idsAmong ps
+
+-- "where the ids of all tables and groups named fit it together": they are no more different ones than the capacity
+unfoldable pub fitTogether : ℕ → List (List ℕ) → Bool
+fitTogether c named = leb (distinct (idsAmong (entriesOfAll named))) c
+
+-- each is laid out as the entries of a table are
+unfoldable pub areSound : List (List ℕ) → Bool
+areSound [] = true
+areSound (t ∷ named) = sound M t && areSound named
+
+-- ---- one table takes in others, in order
+unfoldable pub takenIn : List ℕ → List (List ℕ) → List ℕ
+takenIn t [] = t
+takenIn t (s ∷ named) = takenIn (mergeTable t s) named
+
+-- and none of them is refused
+unfoldable pub allTaken : List ℕ → List (List ℕ) → Bool
+allTaken t [] = true
+allTaken t (s ∷ named) = eqb (mergeRefusal t s) accepted && allTaken (mergeTable t s) named
+
+-- ---- repairs in a run
+pub data Repair : Type 0 where
+  -- the first site's whole table into the second's
+  merging : ℕ → ℕ → Repair
+  -- a group's bytes at a site
+  absorbing : ℕ → List ℕ → Repair
+
+abbrev pub siteOf : Repair → ℕ
+siteOf (merging f t) = t
+siteOf (absorbing t bytes) = t
+
+abbrev pub operation : Repair → Event
+operation (merging f t) = takes (Merge f t)
+operation (absorbing t bytes) = absorbs t bytes
+
+unfoldable pub operations : List Repair → List Event
+operations [] = []
+operations (r ∷ repairs) = operation r ∷ operations repairs
+
+-- nothing but lack of room could refuse it: two different sites of the run, or one of them and bytes that form a group
+unfoldable pub isNamed : Run → Repair → Bool
+isNamed run (merging f t) = ltb f (run .sites) && (ltb t (run .sites) && not (eqb f t))
+isNamed run (absorbing t bytes) = ltb t (run .sites) && not (formsNone bytes)
+
+unfoldable pub areNamed : Run → List Repair → Bool
+areNamed run [] = true
+areNamed run (r ∷ repairs) = isNamed run r && areNamed run repairs
+
+-- each of a list of events is accepted, one after the other
+unfoldable pub allAccepted : Run → State → List Event → Bool
+allAccepted run s [] = true
+allAccepted run s (event ∷ events) = isAccepted run s event && allAccepted run (afterEvent run s event) events
+
+-- what a repair brings, where `has` tells what each site has: all that the first site has, or the group
+abbrev pub brings : (ℕ → List (List ℕ)) → Repair → List (List ℕ)
+brings has (merging f t) = has f
+brings has (absorbing t bytes) = entriesIn bytes ∷ []
+
+-- what a site has after some repairs
+unfoldable pub hasAfter : (ℕ → List (List ℕ)) → List Repair → ℕ → List (List ℕ)
+hasAfter has [] k = has k
+hasAfter has (r ∷ repairs) k = hasAfter (λ j. cond (eqb (siteOf r) j) (has j ++ brings has r) (has j)) repairs k
+
+-- the tables and groups that come to a site by some repairs: its own table, and of each site that reaches it, by itself or by way of others, the table as it
+-- stood before them all
+abbrev pub cameTo : Run → State → List Repair → ℕ → List (List ℕ)
+cameTo run s repairs k = hasAfter (λ j. tableAt run (s .words) j ∷ []) repairs k
