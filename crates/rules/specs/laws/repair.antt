@@ -1,2 +1,3 @@
 -- The order of repairs: request 6.
 pub mod Tables
+pub mod Runs

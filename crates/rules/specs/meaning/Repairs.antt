@@ -91,10 +91,14 @@ abbrev pub brings : (ℕ → List (List ℕ)) → Repair → List (List ℕ)
 brings has (merging f t) = has f
 brings has (absorbing t bytes) = entriesIn bytes ∷ []
 
--- what a site has after some repairs
+-- what each site has with it
+abbrev pub having : (ℕ → List (List ℕ)) → Repair → ℕ → List (List ℕ)
+having has r k = cond (eqb (siteOf r) k) (has k ++ brings has r) (has k)
+
+-- and after some repairs, in order
 unfoldable pub hasAfter : (ℕ → List (List ℕ)) → List Repair → ℕ → List (List ℕ)
 hasAfter has [] k = has k
-hasAfter has (r ∷ repairs) k = hasAfter (λ j. cond (eqb (siteOf r) j) (has j ++ brings has r) (has j)) repairs k
+hasAfter has (r ∷ repairs) k = hasAfter (having has r) repairs k
 
 -- the tables and groups that come to a site by some repairs: its own table, and of each site that reaches it, by itself or by way of others, the table as it
 -- stood before them all

@@ -86,7 +86,7 @@ module _ (run : Run) (s : State) (k : ℕ) (bytes : List ℕ) where
   entries = entriesIn bytes
 
   -- in a sound state only its own tests can refuse it
-  own-tests : StateSound run s → refusalFor run s event ≡ firstGiven (absorbTests run (s .words) k bytes)
+  pub own-tests : StateSound run s → refusalFor run s event ≡ firstGiven (absorbTests run (s .words) k bytes)
   unfolding outcome refusalFor absorbRefusal
   own-tests = sound-before run s (absorbTests run (s .words) k bytes)
 

@@ -5,7 +5,7 @@ use native.Mathlib.Nat.{mul-le-mul-right, zero-mul, suc-mul, add-comm, add-assoc
 use native.Mathlib.Omega.{arith}
 use mathlib.Core.Bool.{true}
 use mathlib.Core.Path.{_≡_, refl, sym, ap, _∙_}
-use mathlib.Core.List.{List, _++_, append-assoc}
+use mathlib.Core.List.{List, [], _∷_, _++_, append-assoc}
 use lib.ListN.{length, take, drop, length-drop, length-append, take-append-drop}
 use lib.Seq.{drop-drop, take-at, drop-at, length-take-le, take-append-le, drop-append-le, drop-append-add}
 use Rattle.rules.specs.declared.Run.{Run}
@@ -42,6 +42,19 @@ tables-by most w (suc n) ws h =
     let here : sound most (take w ws) ≡ true = rw (first-part w ws) at (h 0 (omega arith)) in
     let rest : tablesSound most w n (drop w ws) ≡ true = tables-by most w n (drop w ws) (λ k p. rw (later-part k w ws) (h (suc k) (omega arith))) in
     rw (here, rest)
+
+-- and words are known by their tables
+pub words-by : (w n : ℕ) (us vs : List ℕ) → length us ≡ n * w → length vs ≡ n * w → ((k : ℕ) → k < n → take w (drop (k * w) us) ≡ take w (drop (k * w) vs)) → us ≡ vs
+words-by w zero us vs p q each = empty us (p ∙ zero-mul w) ∙ sym (empty vs (q ∙ zero-mul w))
+  where
+    empty : (l : List ℕ) → length l ≡ 0 → l ≡ []
+    empty [] h = refl
+    empty (x ∷ l) h = absurd (omega arith)
+words-by w (suc n) us vs p q each =
+    let first : take w us ≡ take w vs = rw (first-part w us, first-part w vs) at (each 0 (omega arith)) in
+    let others : drop w us ≡ drop w vs = words-by w n (drop w us) (drop w vs) (simp length-drop (omega (arith, p, suc-mul n w))) (simp length-drop (omega (arith, q, suc-mul n w)))
+        (λ k l. rw (later-part k w us, later-part k w vs) (each (suc k) (omega arith))) in
+    sym (take-append-drop w us) ∙ (rw (first, others) (take-append-drop w vs))
 
 -- ---- one table replaced
 module _ (run : Run) (ws t : List ℕ) (k n : ℕ) (in-run : k < n) (long : length ws ≡ n * width run) (same-width : length t ≡ width run) where

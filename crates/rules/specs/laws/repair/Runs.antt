@@ -1,0 +1,171 @@
+-- The order of repairs, in a run: where what comes to each site fits it, every repair is accepted, and each site ends with the largest of the lengths that came
+-- to it. So the words go by what came to which site, and not by the order; the slots and the ledger stay.
+-- Assumes nothing.
+use Prim.Native.Nat.{ℕ, _≤_, _<_}
+use native.Mathlib.Nat.{le-refl, le-trans}
+use native.Mathlib.Omega.{arith}
+use mathlib.Core.Bool.{Bool, true, false, _&&_, not, cond}
+use mathlib.Core.Path.{_≡_, refl, sym, ap, _∙_}
+use mathlib.Core.List.{List, [], _∷_, _++_}
+use lib.ListN.{length}
+use lib.Seq.{set-out}
+use lib.Dec.{eqb, ltb}
+use borrow.Author.Tests.{lt-leb, ltb-true, le-ltb, eq-eqb, not-true, not-false}
+use Rattle.rules.specs.declared.Run.{Run}
+use Rattle.rules.specs.declared.Step.the-variants.{Merge}
+use Rattle.rules.specs.meaning.Lengths.{M, join}
+use Rattle.rules.specs.meaning.Table.{SoundTable, lengthOf, heldMerged}
+use Rattle.rules.specs.meaning.Operations.{accepted, crowded, mergeRefusal}
+use Rattle.rules.specs.meaning.Parcels.{noParcel}
+use Rattle.rules.specs.meaning.Links.{noLink, noPair}
+use Rattle.rules.specs.meaning.Ledgers.{raisedIf}
+use Rattle.rules.specs.meaning.Refusals.{firstGiven}
+use Rattle.rules.specs.meaning.States.{State, StateSound, width, tableAt}
+use Rattle.rules.specs.meaning.Steps.{entriesOf, effect}
+use Rattle.rules.specs.meaning.Runs.{after}
+use Rattle.rules.specs.meaning.Groups.{entriesIn, formsNone}
+use Rattle.rules.specs.meaning.Events.{takes, outcome, refusalFor, afterEvent}
+use Rattle.rules.specs.meaning.Histories.{ran, lengthIn, largest, samePairs, among, distinct}
+use Rattle.rules.specs.meaning.Repairs.{TableOf, entriesOfAll, idsAmong, fitTogether, Repair, merging, absorbing, siteOf, operation, operations, isNamed, areNamed, allAccepted, brings, having, hasAfter, cameTo}
+use Rattle.rules.specs.laws.table.View.{parts}
+use Rattle.rules.specs.laws.table.Law.{law}
+use Rattle.rules.specs.laws.table.Operations.{room-within}
+use Rattle.rules.specs.laws.group.Groups.{entries-sound}
+use Rattle.rules.specs.laws.run.Sites.{words-by}
+use Rattle.rules.specs.laws.run.Steps.{sound-judged}
+use Rattle.rules.specs.laws.run.Tables.{words-long, site-sound, site-length}
+use Rattle.rules.specs.laws.run.Events.{event-keeps}
+use Rattle.rules.specs.laws.run.Happens.{own-tests}
+use Rattle.rules.specs.laws.history.Figure4.{figure4-merge}
+use Rattle.rules.specs.laws.history.Groups.{absorb-leaves, absorb-joins}
+use Rattle.rules.specs.laws.history.Counting.{event-sound, ran-sound}
+use Rattle.rules.specs.laws.history.Pairs.{largest-append, largest-entries, same-largest}
+use Rattle.rules.specs.laws.repair.Tables.{Inside, pairs-among, fit-few, largest-first, joined}
+
+-- ---- one repair
+-- the words that it brings
+abbrev source : Run → State → Repair → List ℕ
+source run s (merging f t) = tableAt run (s .words) f
+source run s (absorbing t bytes) = entriesIn bytes
+
+-- named well, it is of a site of the run
+named-site : (run : Run) (r : Repair) → isNamed run r ≡ true → siteOf r < run .sites
+unfolding isNamed
+named-site run (merging f t) h = ltb-true _ _ (parts (ltb t (run .sites)) _ (parts (ltb f (run .sites)) _ h .1) .0)
+named-site run (absorbing t bytes) h = ltb-true _ _ (parts (ltb t (run .sites)) _ h .0)
+
+module _ (run : Run) (s : State) (so : StateSound run s) where
+  abbrev own : Repair → List ℕ
+  own r = tableAt run (s .words) (siteOf r)
+
+  source-sound : (r : Repair) → isNamed run r ≡ true → SoundTable (source run s r)
+  unfolding isNamed
+  source-sound (merging f t) h = site-sound run s so f (ltb-true _ _ (parts (ltb f (run .sites)) _ h .0))
+  source-sound (absorbing t bytes) h = entries-sound bytes
+
+  roomy : (t u : List ℕ) → mergeRefusal t u ≡ accepted → crowded t (heldMerged t u) ≡ false
+  unfolding mergeRefusal
+  roomy t u h = le-ltb _ _ (room-within t (heldMerged t u) h)
+
+  -- where the site has room it is accepted
+  repair-accepted : (r : Repair) → isNamed run r ≡ true → mergeRefusal (own r) (source run s r) ≡ accepted → refusalFor run s (operation r) ≡ 0
+  unfolding isNamed refusalFor outcome effect firstGiven
+  repair-accepted (merging f t) h room =
+      let a = parts (ltb f (run .sites)) _ h in
+      let b = parts (ltb t (run .sites)) _ (a .1) in
+      sound-judged run s (Merge f t) so ∙ (rw (lt-leb _ _ (ltb-true f (run .sites) (a .0)), lt-leb _ _ (ltb-true t (run .sites) (b .0)), not-true (eqb f t) (b .1), roomy (own (merging f t)) (tableAt run (s .words) f) room))
+  repair-accepted (absorbing t bytes) h room =
+      let a = parts (ltb t (run .sites)) _ h in
+      own-tests run s t bytes so ∙ (rw (lt-leb _ _ (ltb-true t (run .sites) (a .0)), not-true (formsNone bytes) (a .1), roomy (own (absorbing t bytes)) (entriesIn bytes) room))
+
+  -- and joins what it brings in at its site
+  repair-joins : (r : Repair) → refusalFor run s (operation r) ≡ 0 → (k x : ℕ)
+      → lengthIn run (afterEvent run s (operation r)) k x ≡ cond (eqb (siteOf r) k) (join (lengthIn run s k x) (lengthOf (source run s r) x)) (lengthIn run s k x)
+  unfolding refusalFor outcome afterEvent after
+  repair-joins (merging f t) h = figure4-merge run s f t h
+  repair-joins (absorbing t bytes) h = absorb-joins run s t bytes h
+
+-- ---- what the sites have
+-- each site of the run holds the largest of what it is said to have
+abbrev Holds : Run → State → (ℕ → List (List ℕ)) → Type 0
+Holds run s has = (k : ℕ) → k < run .sites → (x : ℕ) → lengthIn run s k x ≡ largest (entriesOfAll (has k)) x
+
+largest-both : (xs ys : List (List ℕ)) (x : ℕ) → largest (entriesOfAll (xs ++ ys)) x ≡ join (largest (entriesOfAll xs) x) (largest (entriesOfAll ys) x)
+unfolding entriesOfAll largest
+largest-both [] ys x = omega arith
+largest-both (t ∷ xs) ys x = omega (arith, largest-append (entriesOf t) (entriesOfAll (xs ++ ys)) x, largest-append (entriesOf t) (entriesOfAll xs) x, largest-both xs ys x)
+
+-- nothing that a site has goes away
+having-grows : (has : ℕ → List (List ℕ)) (r : Repair) (k x : ℕ) → largest (entriesOfAll (has k)) x ≤ largest (entriesOfAll (having has r k)) x
+having-grows has r k x = go (eqb (siteOf r) k)
+  where
+    go : (b : Bool) → largest (entriesOfAll (has k)) x ≤ largest (entriesOfAll (cond b (has k ++ brings has r) (has k))) x
+    go true = omega (arith, largest-both (has k) (brings has r) x)
+    go false = le-refl _
+
+after-grows : (repairs : List Repair) (has : ℕ → List (List ℕ)) (k x : ℕ) → largest (entriesOfAll (has k)) x ≤ largest (entriesOfAll (hasAfter has repairs k)) x
+unfolding hasAfter
+after-grows [] has k x = le-refl _
+after-grows (r ∷ repairs) has k x = le-trans (having-grows has r k x) (after-grows repairs (having has r) k x)
+
+-- the site of a repair has what it had and what is brought
+having-there : (has : ℕ → List (List ℕ)) (r : Repair) → having has r (siteOf r) ≡ has (siteOf r) ++ brings has r
+having-there has r = rw (eq-eqb (siteOf r) (siteOf r) refl)
+
+module _ (run : Run) (s : State) (so : StateSound run s) (has : ℕ → List (List ℕ)) (holds : Holds run s has) where
+  -- what a repair brings is what the first site has, or the group
+  source-has : (r : Repair) → isNamed run r ≡ true → (x : ℕ) → lengthOf (source run s r) x ≡ largest (entriesOfAll (brings has r)) x
+  unfolding isNamed entriesOfAll largest
+  source-has (merging f t) h x = holds f (ltb-true _ _ (parts (ltb f (run .sites)) _ h .0)) x
+  source-has (absorbing t bytes) h x = omega (arith, largest-first (entriesIn bytes) [] (entries-sound bytes) x)
+
+  -- so after it the sites hold the largest of what they then have
+  repair-holds : (r : Repair) → isNamed run r ≡ true → refusalFor run s (operation r) ≡ 0 → Holds run (afterEvent run s (operation r)) (having has r)
+  repair-holds r h ok k l x = repair-joins run s so r ok k x ∙ go (eqb (siteOf r) k)
+    where
+      go : (b : Bool) → cond b (join (lengthIn run s k x) (lengthOf (source run s r) x)) (lengthIn run s k x) ≡ largest (entriesOfAll (cond b (has k ++ brings has r) (has k))) x
+      go true = omega (arith, holds k l x, source-has r h x, largest-both (has k) (brings has r) x)
+      go false = holds k l x
+
+  -- and where what the site then has fits, it is accepted
+  repair-fits : (ids : List ℕ) → distinct ids ≤ run .capacity → (r : Repair) → isNamed run r ≡ true → ((x : ℕ) → 1 ≤ largest (entriesOfAll (having has r (siteOf r))) x → among x ids ≡ true)
+      → refusalFor run s (operation r) ≡ 0
+  repair-fits ids few r h inside =
+      let l = named-site run r h in
+      let own = tableAt run (s .words) (siteOf r) in
+      let both : (x : ℕ) → largest (entriesOfAll (having has r (siteOf r))) x ≡ join (lengthOf own x) (lengthOf (source run s r) x) =
+          λ x. rw (having-there has r) (omega (arith, holds (siteOf r) l x, source-has r h x, largest-both (has (siteOf r)) (brings has r) x)) in
+      repair-accepted run s so r h (joined (run .capacity) ids few own (source run s r) (site-length run s so (siteOf r) l, site-sound run s so (siteOf r) l)
+          (source-sound run s so r h) (λ x p. inside x (omega (arith, both x))) (λ x p. inside x (omega (arith, both x))) .taken)
+
+-- ---- some repairs, in order
+module _ (run : Run) (ids : ℕ → List ℕ) (few : (k : ℕ) → k < run .sites → distinct (ids k) ≤ run .capacity) where
+  abbrev InsideAll : (ℕ → List (List ℕ)) → Type 0
+  InsideAll has = (k : ℕ) → k < run .sites → (x : ℕ) → 1 ≤ largest (entriesOfAll (has k)) x → among x (ids k) ≡ true
+
+  repair-all : (repairs : List Repair) (s : State) (has : ℕ → List (List ℕ)) → StateSound run s → Holds run s has → areNamed run repairs ≡ true → InsideAll (hasAfter has repairs)
+      → (allAccepted run s (operations repairs) ≡ true) × Holds run (ran run s (operations repairs)) (hasAfter has repairs)
+  unfolding areNamed allAccepted operations ran hasAfter
+  repair-all [] s has so holds names inside = (refl, holds)
+  repair-all (r ∷ repairs) s has so holds names inside =
+      let n = parts (isNamed run r) _ names in
+      let l = named-site run r (n .0) in
+      let ok = repair-fits run s so has holds (ids (siteOf r)) (few (siteOf r) l) r (n .0) (λ x p. inside (siteOf r) l x (le-trans p (after-grows repairs (having has r) (siteOf r) x))) in
+      let rest = repair-all repairs (afterEvent run s (operation r)) (having has r) (event-sound run s (operation r) so) (repair-holds run s so has holds r (n .0) ok) (n .1) inside in
+      (rw ok (rest .0), rest .1)
+
+-- ---- the slots and the ledger stay, in a ledger of 256 entries, as its type has it
+repair-leaves : (run : Run) (s : State) → length (s .ledger .pairs) ≡ 256 → (r : Repair) → (afterEvent run s (operation r) .slots ≡ s .slots) × (afterEvent run s (operation r) .ledger ≡ s .ledger)
+unfolding outcome effect raisedIf
+repair-leaves run s whole (merging f t) = event-keeps run s (takes (Merge f t)) (λ u. (u .slots ≡ s .slots) × (u .ledger ≡ s .ledger)) (refl, refl)
+    (λ _. rw (set-out (s .slots) (length (s .slots)) noParcel (le-refl (length (s .slots))), set-out (s .ledger .pairs) noLink noPair (omega (arith, whole))) (refl, refl))
+repair-leaves run s whole (absorbing t bytes) = absorb-leaves run s t bytes
+
+pub repairs-leave : (run : Run) (repairs : List Repair) (s : State) → length (s .ledger .pairs) ≡ 256
+    → (ran run s (operations repairs) .slots ≡ s .slots) × (ran run s (operations repairs) .ledger ≡ s .ledger)
+unfolding ran operations
+repairs-leave run [] s whole = (refl, refl)
+repairs-leave run (r ∷ repairs) s whole =
+    let one = repair-leaves run s whole r in
+    let rest = repairs-leave run repairs (afterEvent run s (operation r)) (rw (one .1) whole) in
+    (rest .0 ∙ one .0, rest .1 ∙ one .1)
