@@ -1,6 +1,6 @@
 -- Repairs: tables and groups taken in one after the other, at one table and in a run, and when all that is named fits together.
 -- Assumes nothing.
-use Prim.Native.Nat.{ℕ, _*_}
+use Prim.Native.Nat.{ℕ, zero, suc, _*_}
 use mathlib.Core.Path.{_≡_}
 use mathlib.Core.Bool.{Bool, true, _&&_, not, cond}
 use mathlib.Core.List.{List, [], _∷_, _++_}
@@ -15,7 +15,7 @@ use Rattle.rules.specs.meaning.States.{State, tableAt}
 use Rattle.rules.specs.meaning.Steps.{Entry, entriesOf}
 use Rattle.rules.specs.meaning.Groups.{entriesIn, formsNone}
 use Rattle.rules.specs.meaning.Events.{Event, takes, absorbs, afterEvent}
-use Rattle.rules.specs.meaning.Histories.{isAccepted, distinct}
+use Rattle.rules.specs.meaning.Histories.{isAccepted, samePairs, distinct}
 
 -- ---- tables and groups, each a list of words, id then length
 -- "tables of one capacity", as 01 lays them out
@@ -54,6 +54,11 @@ allTaken t [] = true
 allTaken t (s ∷ named) = eqb (mergeRefusal t s) accepted && allTaken (mergeTable t s) named
 
 -- ---- repairs in a run
+-- a test of each of the first n sites
+unfoldable pub atEach : (ℕ → Bool) → ℕ → Bool
+atEach test zero = true
+atEach test (suc n) = test n && atEach test n
+
 pub data Repair : Type 0 where
   -- the first site's whole table into the second's
   merging : ℕ → ℕ → Repair
@@ -81,6 +86,11 @@ unfoldable pub areNamed : Run → List Repair → Bool
 areNamed run [] = true
 areNamed run (r ∷ repairs) = isNamed run r && areNamed run repairs
 
+-- all of them are repairs of one site
+unfoldable pub areOf : ℕ → List Repair → Bool
+areOf k [] = true
+areOf k (r ∷ repairs) = eqb (siteOf r) k && areOf k repairs
+
 -- each of a list of events is accepted, one after the other
 unfoldable pub allAccepted : Run → State → List Event → Bool
 allAccepted run s [] = true
@@ -100,7 +110,29 @@ unfoldable pub hasAfter : (ℕ → List (List ℕ)) → List Repair → ℕ → 
 hasAfter has [] k = has k
 hasAfter has (r ∷ repairs) k = hasAfter (having has r) repairs k
 
--- the tables and groups that come to a site by some repairs: its own table, and of each site that reaches it, by itself or by way of others, the table as it
--- stood before them all
-abbrev pub cameTo : Run → State → List Repair → ℕ → List (List ℕ)
-cameTo run s repairs k = hasAfter (λ j. tableAt run (s .words) j ∷ []) repairs k
+-- all that some repairs name, where each site keeps what it has
+unfoldable pub allBrought : (ℕ → List (List ℕ)) → List Repair → List (List ℕ)
+allBrought has [] = []
+allBrought has (r ∷ repairs) = brings has r ++ allBrought has repairs
+
+-- ---- from a state, in which each site has its own table
+module _ (run : Run) (s : State) where
+  abbrev pub ownTables : ℕ → List (List ℕ)
+  ownTables k = tableAt run (s .words) k ∷ []
+
+  -- the tables and groups that some repairs name, as they stand before them
+  abbrev pub named : List Repair → List (List ℕ)
+  named repairs = allBrought ownTables repairs
+
+  -- the tables and groups that come to a site by some repairs: its own table, each group, and the table of each site that reaches it, by itself or by way of
+  -- others, all of them as they stand before the first
+  abbrev pub cameTo : List Repair → ℕ → List (List ℕ)
+  cameTo repairs k = hasAfter ownTables repairs k
+
+  -- at each site the ids of all that comes to it fit it together
+  unfoldable pub fitEverywhere : List Repair → Bool
+  fitEverywhere repairs = atEach (λ k. fitTogether (run .capacity) (cameTo repairs k)) (run .sites)
+
+  -- at each site the same set of entries comes by the one list and by the other
+  unfoldable pub sameEverywhere : List Repair → List Repair → Bool
+  sameEverywhere xs ys = atEach (λ k. samePairs (entriesOfAll (cameTo xs k)) (entriesOfAll (cameTo ys k))) (run .sites)
