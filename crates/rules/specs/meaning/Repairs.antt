@@ -1,4 +1,5 @@
--- Repairs: tables and groups taken in one after the other, at one table and in a run, and when all that is named fits together.
+-- Repairs: tables and groups taken in one after the other, by one table and in a run, and when the ids of all that is named fit together. Request 6 asks whether
+-- their order can matter.
 -- Assumes nothing.
 use Prim.Native.Nat.{ℕ, zero, suc, _*_}
 use mathlib.Core.Path.{_≡_}
@@ -17,15 +18,20 @@ use Rattle.rules.specs.meaning.Groups.{entriesIn, formsNone}
 use Rattle.rules.specs.meaning.Events.{Event, takes, absorbs, afterEvent}
 use Rattle.rules.specs.meaning.Histories.{isAccepted, samePairs, distinct}
 
--- ---- tables and groups, each a list of words, id then length
--- "tables of one capacity", as 01 lays them out
+-- ---- tables and groups, each of them words, id then length
+-- a table of a capacity, as 01 lays it out
 abbrev pub TableOf : ℕ → List ℕ → Type 0
 TableOf c t = (length t ≡ 2 * c) × SoundTable t
 
 abbrev pub emptyTable : ℕ → List ℕ
 emptyTable c = replicate (2 * c) 0
 
--- the entries of all that is named, and their ids
+-- each has its entries laid out as a table has them; a group's are so, with no unused place behind them
+unfoldable pub areSound : List (List ℕ) → Bool
+areSound [] = true
+areSound (t ∷ named) = sound M t && areSound named
+
+-- the entries of all that is named
 unfoldable pub entriesOfAll : List (List ℕ) → List Entry
 entriesOfAll [] = []
 entriesOfAll (t ∷ named) = entriesOf t ++ entriesOfAll named
@@ -34,41 +40,47 @@ unfoldable pub idsAmong : List Entry → List ℕ
 idsAmong [] = []
 idsAmong (p ∷ ps) = p .id ∷ idsAmong ps
 
--- "where the ids of all tables and groups named fit it together": they are no more different ones than the capacity
+-- "where the ids of all tables and groups named fit it together": there are no more different ones than the capacity
 unfoldable pub fitTogether : ℕ → List (List ℕ) → Bool
 fitTogether c named = leb (distinct (idsAmong (entriesOfAll named))) c
 
--- each is laid out as the entries of a table are
-unfoldable pub areSound : List (List ℕ) → Bool
-areSound [] = true
-areSound (t ∷ named) = sound M t && areSound named
-
--- ---- one table takes in others, in order
+-- ---- one table takes in all that is named, in order
 unfoldable pub takenIn : List ℕ → List (List ℕ) → List ℕ
 takenIn t [] = t
 takenIn t (s ∷ named) = takenIn (mergeTable t s) named
 
--- and none of them is refused
+-- and none of it is refused
 unfoldable pub allTaken : List ℕ → List (List ℕ) → Bool
 allTaken t [] = true
 allTaken t (s ∷ named) = eqb (mergeRefusal t s) accepted && allTaken (mergeTable t s) named
 
--- ---- repairs in a run
--- a test of each of the first n sites
-unfoldable pub atEach : (ℕ → Bool) → ℕ → Bool
-atEach test zero = true
-atEach test (suc n) = test n && atEach test n
-
+-- ---- repairs of a run
 pub data Repair : Type 0 where
-  -- the first site's whole table into the second's
+  -- the first site's whole table merged into the second's
   merging : ℕ → ℕ → Repair
-  -- a group's bytes at a site
+  -- a group's bytes absorbed at a site
   absorbing : ℕ → List ℕ → Repair
 
+-- the site that takes in
 abbrev pub siteOf : Repair → ℕ
 siteOf (merging f t) = t
 siteOf (absorbing t bytes) = t
 
+-- nothing but lack of room could refuse it: two different sites of the run, or one of them and bytes that form a group
+unfoldable pub isProper : Run → Repair → Bool
+isProper run (merging f t) = ltb f (run .sites) && (ltb t (run .sites) && not (eqb f t))
+isProper run (absorbing t bytes) = ltb t (run .sites) && not (formsNone bytes)
+
+unfoldable pub areProper : Run → List Repair → Bool
+areProper run [] = true
+areProper run (r ∷ repairs) = isProper run r && areProper run repairs
+
+-- all of them are of one site
+unfoldable pub allAt : ℕ → List Repair → Bool
+allAt k [] = true
+allAt k (r ∷ repairs) = eqb (siteOf r) k && allAt k repairs
+
+-- the operations that they are
 abbrev pub operation : Repair → Event
 operation (merging f t) = takes (Merge f t)
 operation (absorbing t bytes) = absorbs t bytes
@@ -77,26 +89,13 @@ unfoldable pub operations : List Repair → List Event
 operations [] = []
 operations (r ∷ repairs) = operation r ∷ operations repairs
 
--- nothing but lack of room could refuse it: two different sites of the run, or one of them and bytes that form a group
-unfoldable pub isNamed : Run → Repair → Bool
-isNamed run (merging f t) = ltb f (run .sites) && (ltb t (run .sites) && not (eqb f t))
-isNamed run (absorbing t bytes) = ltb t (run .sites) && not (formsNone bytes)
-
-unfoldable pub areNamed : Run → List Repair → Bool
-areNamed run [] = true
-areNamed run (r ∷ repairs) = isNamed run r && areNamed run repairs
-
--- all of them are repairs of one site
-unfoldable pub areOf : ℕ → List Repair → Bool
-areOf k [] = true
-areOf k (r ∷ repairs) = eqb (siteOf r) k && areOf k repairs
-
--- each of a list of events is accepted, one after the other
+-- each of some operations is accepted, one after the other
 unfoldable pub allAccepted : Run → State → List Event → Bool
 allAccepted run s [] = true
 allAccepted run s (event ∷ events) = isAccepted run s event && allAccepted run (afterEvent run s event) events
 
--- what a repair brings, where `has` tells what each site has: all that the first site has, or the group
+-- ---- what comes to a site: whole tables and groups, where `has` tells which ones each site has
+-- a merge brings all that the first site has
 abbrev pub brings : (ℕ → List (List ℕ)) → Repair → List (List ℕ)
 brings has (merging f t) = has f
 brings has (absorbing t bytes) = entriesIn bytes ∷ []
@@ -105,34 +104,39 @@ brings has (absorbing t bytes) = entriesIn bytes ∷ []
 abbrev pub having : (ℕ → List (List ℕ)) → Repair → ℕ → List (List ℕ)
 having has r k = cond (eqb (siteOf r) k) (has k ++ brings has r) (has k)
 
--- and after some repairs, in order
+-- and with some repairs, in order
 unfoldable pub hasAfter : (ℕ → List (List ℕ)) → List Repair → ℕ → List (List ℕ)
 hasAfter has [] k = has k
 hasAfter has (r ∷ repairs) k = hasAfter (having has r) repairs k
 
--- all that some repairs name, where each site keeps what it has
+-- all that some repairs bring where the sites that they take from have what they had
 unfoldable pub allBrought : (ℕ → List (List ℕ)) → List Repair → List (List ℕ)
 allBrought has [] = []
 allBrought has (r ∷ repairs) = brings has r ++ allBrought has repairs
 
+-- a test of each of the first n sites
+unfoldable pub atEach : (ℕ → Bool) → ℕ → Bool
+atEach test zero = true
+atEach test (suc n) = test n && atEach test n
+
 -- ---- from a state, in which each site has its own table
 module _ (run : Run) (s : State) where
-  abbrev pub ownTables : ℕ → List (List ℕ)
-  ownTables k = tableAt run (s .words) k ∷ []
+  abbrev pub ownTable : ℕ → List (List ℕ)
+  ownTable k = tableAt run (s .words) k ∷ []
 
-  -- the tables and groups that some repairs name, as they stand before them
+  -- the tables and groups that some repairs name, each table as it stands before them
   abbrev pub named : List Repair → List (List ℕ)
-  named repairs = allBrought ownTables repairs
+  named repairs = allBrought ownTable repairs
 
-  -- the tables and groups that come to a site by some repairs: its own table, each group, and the table of each site that reaches it, by itself or by way of
-  -- others, all of them as they stand before the first
+  -- those that come to a site by some repairs: its own table, the groups, and the table of each site that reaches it, by itself or by way of others, as they
+  -- stand before them
   abbrev pub cameTo : List Repair → ℕ → List (List ℕ)
-  cameTo repairs k = hasAfter ownTables repairs k
+  cameTo repairs k = hasAfter ownTable repairs k
 
-  -- at each site the ids of all that comes to it fit it together
+  -- at each site they fit together
   unfoldable pub fitEverywhere : List Repair → Bool
   fitEverywhere repairs = atEach (λ k. fitTogether (run .capacity) (cameTo repairs k)) (run .sites)
 
-  -- at each site the same set of entries comes by the one list and by the other
+  -- at each site the same set of entries comes by the one list of repairs and by the other
   unfoldable pub sameEverywhere : List Repair → List Repair → Bool
   sameEverywhere xs ys = atEach (λ k. samePairs (entriesOfAll (cameTo xs k)) (entriesOfAll (cameTo ys k))) (run .sites)

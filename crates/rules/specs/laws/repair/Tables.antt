@@ -1,97 +1,32 @@
--- The order of repairs, at one table: tables and groups whose ids fit it together are all taken in, and what comes of them goes by their entries alone. The
--- laws follow from THE LAW and from those of the join.
+-- The order of repairs, at one table: what comes of tables and groups that fit it together goes by their entries alone. Each law of the request follows from
+-- THE LAW and from one of the join.
 -- Assumes nothing.
-use Prim.Native.Nat.{ℕ, zero, suc, _*_, _≤_}
-use native.Mathlib.Nat.{le-refl, le-trans}
+use Prim.Native.Nat.{ℕ, _*_, _≤_}
+use native.Mathlib.Nat.{le-refl}
 use native.Mathlib.Omega.{arith}
-use mathlib.Core.Bool.{Bool, true, false, _&&_, cond, false≢true}
+use mathlib.Core.Bool.{true, false≢true}
 use mathlib.Core.Path.{_≡_, refl, sym, ap, _∙_}
-use mathlib.Core.List.{List, [], _∷_, _++_}
+use mathlib.Core.List.{List, [], _∷_}
 use lib.ListN.{length, length-replicate}
-use lib.Dec.{leb, eqb}
-use borrow.Author.Tests.{leb-true, le-ltb, eq-eqb}
+use borrow.Author.Tests.{le-ltb}
 use Rattle.rules.specs.meaning.Lengths.{M, join}
-use Rattle.rules.specs.meaning.Table.{SoundTable, sound, capacity, lengthOf, held, heldMerged, rises}
+use Rattle.rules.specs.meaning.Table.{SoundTable, sound, lengthOf, rises}
 use Rattle.rules.specs.meaning.Operations.{accepted, answer, mergeRefusal, mergeAnswer, mergeTable}
-use Rattle.rules.specs.meaning.Steps.{Entry, entriesOf, idsOf}
+use Rattle.rules.specs.meaning.Steps.{idsOf}
 use Rattle.rules.specs.meaning.Histories.{largest, samePairs, among, distinct}
-use Rattle.rules.specs.meaning.Repairs.{TableOf, emptyTable, entriesOfAll, idsAmong, fitTogether, areSound, takenIn, allTaken}
+use Rattle.rules.specs.meaning.Repairs.{TableOf, emptyTable, areSound, entriesOfAll, idsAmong, fitTogether, takenIn, allTaken}
 use Rattle.rules.specs.laws.Lengths.{join-commutes, join-associates}
-use Rattle.rules.specs.laws.table.Order.{Side, Side.below, Side.same, Side.above, side}
 use Rattle.rules.specs.laws.table.View.{Sound.rest, parts, say}
 use Rattle.rules.specs.laws.table.Law.{law, of-unused}
 use Rattle.rules.specs.laws.table.Update.{held-fits}
 use Rattle.rules.specs.laws.table.Merge.{still, still-room}
-use Rattle.rules.specs.laws.table.Operations.{room-accepted, merge-accepted, merge-sound, merge-length, merge-of}
+use Rattle.rules.specs.laws.table.Operations.{merge-accepted}
 use Rattle.rules.specs.laws.run.Zeros.{all-unused}
-use Rattle.rules.specs.laws.history.Climbing.{among-same, among-other}
-use Rattle.rules.specs.laws.history.Distinct.{AllAmong, among-either, distinct-grows}
-use Rattle.rules.specs.laws.history.Held.{ids-distinct, needed-for-all, held-among, among-held}
-use Rattle.rules.specs.laws.history.Pairs.{largest-same, largest-other, largest-append, largest-entries, same-largest}
+use Rattle.rules.specs.laws.history.Climbing.{among-same}
+use Rattle.rules.specs.laws.history.Held.{ids-distinct, held-among}
+use Rattle.rules.specs.laws.history.Pairs.{same-largest}
 use Rattle.rules.specs.laws.history.Rising.{risen, risen-count, risen-among}
-
--- ---- the ids of what is named
--- a pair that has a length has its id among them
-pub pairs-among : (ps : List Entry) (x : ℕ) → 1 ≤ largest ps x → among x (idsAmong ps) ≡ true
-unfolding largest idsAmong
-pairs-among [] x h = absurd (omega arith)
-pairs-among (p ∷ ps) x h = go (side (p .id) x) (pairs-among ps x)
-  where
-    other : (p .id ≡ x → ⊥) → (1 ≤ largest ps x → among x (idsAmong ps) ≡ true) → among x (p .id ∷ idsAmong ps) ≡ true
-    other ne ih = among-other x (p .id) (idsAmong ps) (λ q. ne (sym q)) ∙ ih (omega (arith, largest-other p ps x ne))
-
-    go : Side (p .id) x → (1 ≤ largest ps x → among x (idsAmong ps) ≡ true) → among x (p .id ∷ idsAmong ps) ≡ true
-    go (below q) ih = other (omega arith) ih
-    go (above q) ih = other (omega arith) ih
-    go (same q) ih = rw (← q) (among-same (p .id) (idsAmong ps))
-
--- where they fit together they are no more than the capacity
-pub fit-few : (c : ℕ) (named : List (List ℕ)) → fitTogether c named ≡ true → distinct (idsAmong (entriesOfAll named)) ≤ c
-unfolding fitTogether
-fit-few c named h = leb-true _ _ h
-
--- ---- a table or a group whose ids are among some
-abbrev pub Inside : List ℕ → List ℕ → Type 0
-Inside ids t = (x : ℕ) → 1 ≤ lengthOf t x → among x ids ≡ true
-
--- the first of some, beside the others
-pub largest-first : (t : List ℕ) (named : List (List ℕ)) → SoundTable t → (x : ℕ) → largest (entriesOfAll (t ∷ named)) x ≡ join (lengthOf t x) (largest (entriesOfAll named) x)
-unfolding entriesOfAll
-largest-first t named ok x = rw (← largest-entries M t ok x) (largest-append (entriesOf t) (entriesOfAll named) x)
-
--- what has no length above the largest of all that is named has its ids among theirs
-pub covered-inside : (named : List (List ℕ)) (t : List ℕ) → ((x : ℕ) → lengthOf t x ≤ largest (entriesOfAll named) x) → Inside (idsAmong (entriesOfAll named)) t
-covered-inside named t covered x some = pairs-among (entriesOfAll named) x (le-trans some (covered x))
-
--- ---- one merge, where there is room for the ids of both
-pub record Joined (c : ℕ) (ids t s : List ℕ) : Type 0 where
-  pub taken : mergeRefusal t s ≡ accepted
-  pub table : TableOf c (mergeTable t s)
-  pub of : (x : ℕ) → lengthOf (mergeTable t s) x ≡ join (lengthOf t x) (lengthOf s x)
-  pub inside : Inside ids (mergeTable t s)
-
-module _ (c : ℕ) (ids : List ℕ) (few : distinct ids ≤ c) where
-  -- its ids are among those that there is room for, so it is accepted
-  merge-fits : (t s : List ℕ) → TableOf c t → SoundTable s → Inside ids t → Inside ids s → mergeRefusal t s ≡ accepted
-  unfolding mergeRefusal
-  merge-fits t s table ok in-t in-s =
-      let all : distinct (idsOf s ++ idsOf t) ≤ distinct ids = distinct-grows _ _ (among-either (idsOf s) (idsOf t) ids (λ x p. in-s x (among-held M s ok x p)) (λ x p. in-t x (among-held M t (table .1) x p))) in
-      room-accepted t (heldMerged t s) (omega (arith, few, all, needed-for-all M t s (table .1) ok, table .0))
-
-  pub joined : (t s : List ℕ) → TableOf c t → SoundTable s → Inside ids t → Inside ids s → Joined c ids t s
-  joined t s table ok in-t in-s =
-      let taken = merge-fits t s table ok in-t in-s in
-      let of = merge-of M t s (table .1) ok taken in
-      record {
-        taken = taken;
-        table = (merge-length M t s (table .1) ok ∙ table .0, merge-sound M t s (table .1) ok);
-        of = of;
-        inside = λ x h. either-inside x (lengthOf t x) refl (in-t x) (λ some. in-s x (omega (arith, of x)));
-      }
-    where
-      either-inside : (x n : ℕ) → lengthOf t x ≡ n → (1 ≤ lengthOf t x → among x ids ≡ true) → (lengthOf t x ≡ 0 → among x ids ≡ true) → among x ids ≡ true
-      either-inside x zero q own other = other q
-      either-inside x (suc n) q own other = own (omega arith)
+use Rattle.rules.specs.laws.repair.Fits.{Inside, pairs-among, fit-few, largest-first, covered-inside, joined}
 
 -- two tables of one capacity with the same lengths are one
 pub one-table : (c : ℕ) (t u : List ℕ) → TableOf c t → TableOf c u → ((x : ℕ) → lengthOf t x ≡ lengthOf u x) → t ≡ u

@@ -53,7 +53,7 @@ words-by w zero us vs p q each = empty us (p ∙ zero-mul w) ∙ sym (empty vs (
 words-by w (suc n) us vs p q each =
     let first : take w us ≡ take w vs = rw (first-part w us, first-part w vs) at (each 0 (omega arith)) in
     let others : drop w us ≡ drop w vs = words-by w n (drop w us) (drop w vs) (simp length-drop (omega (arith, p, suc-mul n w))) (simp length-drop (omega (arith, q, suc-mul n w)))
-        (λ k l. rw (later-part k w us, later-part k w vs) (each (suc k) (omega arith))) in
+    (λ k l. rw (later-part k w us, later-part k w vs) (each (suc k) (omega arith))) in
     sym (take-append-drop w us) ∙ (rw (first, others) (take-append-drop w vs))
 
 -- ---- one table replaced
