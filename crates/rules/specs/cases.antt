@@ -7,3 +7,4 @@ pub mod Report
 pub mod Burst
 pub mod Serials
 pub mod Groups
+pub mod Repairs
