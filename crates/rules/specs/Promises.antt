@@ -3,8 +3,8 @@
 -- Assumes nothing.
 use Prim.Native.Nat.{ℕ, suc, _+_, _*_, _/_, _%_, _^_, _≤_, _<_}
 use mathlib.Core.Bool.{true, false, _&&_, cond}
-use mathlib.Core.Path.{_≡_, refl, sym}
-use mathlib.Core.List.{List, _∷_, _++_}
+use mathlib.Core.Path.{_≡_, refl, sym, _∙_}
+use mathlib.Core.List.{List, [], _∷_, _++_}
 use lib.ListN.{length, getD}
 use lib.Dec.{eqb, ltb}
 use lib.IntN.{pos, natAbs}
@@ -20,11 +20,12 @@ use Rattle.rules.specs.declared.Named.{Named}
 use Rattle.rules.specs.declared.Named.the-variants.{Is}
 use Rattle.rules.specs.meaning.Lengths.{M, listed, afterAdd, afterRemove, join}
 use Rattle.rules.specs.meaning.Table.{SoundTable, lengthOf, held, shown, countBelow, rises}
+use Rattle.rules.specs.meaning.Operations.{accepted, answer, mergeRefusal, mergeAnswer, mergeTable}
 use Rattle.rules.specs.meaning.Parcels.{waiting}
 use Rattle.rules.specs.meaning.Serials.{serials, largestSerial, half, nextSerial, isNewer, wrapped}
 use Rattle.rules.specs.meaning.Links.{noPair, linked, stands}
 use Rattle.rules.specs.meaning.Kinds.{isSend, isAgain, isDeliver, isLose, slotOf, linkOf}
-use Rattle.rules.specs.meaning.States.{State, lent, tableAt, parcelAt}
+use Rattle.rules.specs.meaning.States.{State, StateSound, lent, tableAt, parcelAt}
 use Rattle.rules.specs.meaning.Runs.{refusalOf, valueOf, answerOf, after, freshRefusal, afterFresh, Stepped, Freshened}
 use Rattle.rules.specs.meaning.Lags.{lastSent, lagAnswer}
 use Rattle.rules.specs.meaning.Text.{front}
@@ -32,6 +33,7 @@ use Rattle.rules.specs.meaning.Leb.{leb128, readLeb}
 use Rattle.rules.specs.meaning.Groups.{isGroup, groupBytes, group, groupOf, entriesIn}
 use Rattle.rules.specs.meaning.Events.{Event, takes, absorbs, outcome, refusalFor, answerFor, afterEvent}
 use Rattle.rules.specs.meaning.Histories.{ran, acceptedOf, pairIn, isSendOn, sentOn, serialsFrom, absorbed, largest, samePairs, offered, among, distinct, lengthIn}
+use Rattle.rules.specs.meaning.Repairs.{TableOf, emptyTable, areSound, entriesOfAll, fitTogether, takenIn, allTaken, Repair, areProper, allAt, operations, allAccepted, named, fitEverywhere, sameEverywhere}
 use Rattle.rules.specs.meaning.Padding.{unpadded, isPadded, hasShortNumbers}
 use Rattle.rules.specs.meaning.Lines.{textOf, namesStep, numbersOf}
 use Rattle.rules.specs.meaning.StepLines.{lineOf, stepOf, Fits}
@@ -60,6 +62,8 @@ use Rattle.rules.specs.laws.history.Links as Links
 use Rattle.rules.specs.laws.history.Absorbing as Absorbing
 use Rattle.rules.specs.laws.history.Room as Room
 use Rattle.rules.specs.laws.history.Groups as Absorbed
+use Rattle.rules.specs.laws.repair.Tables as Repairs
+use Rattle.rules.specs.laws.repair.Orders as Orders
 use Rattle.rules.specs.laws.line.Lines as Lines
 use Rattle.rules.specs.laws.line.Steps as StepLines
 use Rattle.rules.specs.laws.report.Bare as Bare
@@ -198,6 +202,9 @@ module _ (run : Run) (first : ℕ) (s : State) (fresh : freshRefusal run (length
   pub never-1-or-2 : (before : List Event) (event : Event) → (refusalFor run (ran run start before) event ≡ 1 → ⊥) × (refusalFor run (ran run start before) event ≡ 2 → ⊥)
   never-1-or-2 before event = (Counting.never-1 run first s fresh before event, Counting.never-2 run first s fresh before event)
 
+  pub states-stay-sound : (events : List Event) → StateSound run (ran run start events) × (length (ran run start events .ledger .pairs) ≡ length (s .ledger .pairs))
+  states-stay-sound events = (Counting.fresh-ran-sound run first s fresh events, Links.ran-entries-stay run start events ∙ Links.fresh-entries-stay run first s fresh)
+
   -- "For each site and id, the length held is the largest it has absorbed .., or zero if none."
   pub held-is-largest-absorbed : (events : List Event) (k e : ℕ) → lengthOf (tableAt run (ran run start events .words) k) e ≡ largest (absorbed run start k events) e
   held-is-largest-absorbed = Absorbing.held-is-largest run first s fresh
@@ -297,6 +304,50 @@ module _ (run : Run) (s : State) (k : ℕ) (bytes : List ℕ) where
 
   pub absorb-leaves-the-ledger : (afterEvent run s (absorbs k bytes) .slots ≡ s .slots) × (afterEvent run s (absorbs k bytes) .ledger ≡ s .ledger)
   absorb-leaves-the-ledger = Absorbed.absorb-leaves run s k bytes
+
+-- ---- request 6: "Two shifts repaired the same three sites in different orders and asked whether that can matter." Where there is room it cannot, and there is room
+-- "where the ids of all tables and groups named fit it together": `fitTogether`. Each merge and absorption named is accepted then
+module _ (c : ℕ) where
+  -- "For tables of one capacity ..: merging a table with an equal one changes nothing", and no length rises. One table's ids always fit it
+  pub an-equal-table-changes-nothing : (a : List ℕ) → TableOf c a → (mergeAnswer a a ≡ answer accepted 0) × (mergeTable a a ≡ a)
+  an-equal-table-changes-nothing = Repairs.equal-changes-nothing c
+
+  -- "either one merged into the other gives the same table"
+  pub either-into-the-other : (a b : List ℕ) → TableOf c a → TableOf c b → fitTogether c (a ∷ b ∷ []) ≡ true
+      → (mergeRefusal a b ≡ accepted) × (mergeRefusal b a ≡ accepted) × (mergeTable a b ≡ mergeTable b a)
+  either-into-the-other = Repairs.either-way c
+
+  -- "three may be grouped in either way"
+  pub three-grouped-in-either-way : (a b d : List ℕ) → TableOf c a → TableOf c b → TableOf c d → fitTogether c (a ∷ b ∷ d ∷ []) ≡ true
+      → (mergeRefusal a b ≡ accepted) × (mergeRefusal (mergeTable a b) d ≡ accepted) × (mergeRefusal b d ≡ accepted) × (mergeRefusal a (mergeTable b d) ≡ accepted)
+      × (mergeTable (mergeTable a b) d ≡ mergeTable a (mergeTable b d))
+  three-grouped-in-either-way = Repairs.three-either-way c
+
+  -- "the empty table changes nothing": merged into a table, no length rises; a table merged into it is the table
+  pub the-empty-table-changes-nothing : (a : List ℕ) → TableOf c a
+      → (mergeAnswer a (emptyTable c) ≡ answer accepted 0) × (mergeTable a (emptyTable c) ≡ a) × (mergeRefusal (emptyTable c) a ≡ accepted) × (mergeTable (emptyTable c) a ≡ a)
+  the-empty-table-changes-nothing = Repairs.empty-changes-nothing c
+
+  -- "Groups absorbed in any order, or twice, likewise leave the same table": two lists of groups, or of whole tables, or of both, with one set of entries
+  pub any-order-or-twice : (t : List ℕ) (xs ys : List (List ℕ)) → TableOf c t → areSound xs ≡ true → areSound ys ≡ true
+      → samePairs (entriesOfAll xs) (entriesOfAll ys) ≡ true → fitTogether c (t ∷ xs) ≡ true
+      → (allTaken t xs ≡ true) × (allTaken t ys ≡ true) × (takenIn t xs ≡ takenIn t ys)
+  any-order-or-twice = Repairs.any-order c
+
+-- the same of a run's operations: two lists of repairs, each of them a merge of one site into another or a group absorbed at a site, leave the same words, slots and
+-- ledger. It is said of a sound state, as is each that a run comes to (`states-stay-sound`), with a ledger of 256 entries, as its type has it
+module _ (run : Run) (s : State) (sound : StateSound run s) (whole : length (s .ledger .pairs) ≡ 256) where
+  -- all of one site, where the same set of entries stands in the tables and groups that either list names
+  pub one-site-in-any-order : (k : ℕ) (xs ys : List Repair) → areProper run xs ≡ true → areProper run ys ≡ true → allAt k xs ≡ true → allAt k ys ≡ true
+      → fitTogether (run .capacity) (tableAt run (s .words) k ∷ named run s xs) ≡ true
+      → samePairs (entriesOfAll (named run s xs)) (entriesOfAll (named run s ys)) ≡ true
+      → (allAccepted run s (operations xs) ≡ true) × (allAccepted run s (operations ys) ≡ true) × (ran run s (operations xs) ≡ ran run s (operations ys))
+  one-site-in-any-order = Orders.any-order-at-a-site run s sound whole
+
+  -- of any sites, as the shifts did: where the same set of entries comes to each site by either list, by itself or by way of others
+  pub all-sites-in-any-order : (xs ys : List Repair) → areProper run xs ≡ true → areProper run ys ≡ true → fitEverywhere run s xs ≡ true → sameEverywhere run s xs ys ≡ true
+      → (allAccepted run s (operations xs) ≡ true) × (allAccepted run s (operations ys) ≡ true) × (ran run s (operations xs) ≡ ran run s (operations ys))
+  all-sites-in-any-order = Orders.any-order-everywhere run s sound whole
 
 -- ---- a burst, many steps in one call with the state judged once, is its steps one by one: the state that it leaves is the one after them, and the
 -- answer to each ask, in its two places, is that of the step in the state after the asks before it. So what is promised of a list of steps is promised

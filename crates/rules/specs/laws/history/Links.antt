@@ -33,6 +33,7 @@ use Rattle.rules.specs.laws.history.Climbing.{among-same}
 use Rattle.rules.specs.laws.run.Tables.{few-sites}
 use Rattle.rules.specs.laws.run.Slots.{cleared-at}
 use Rattle.rules.specs.laws.run.Sound.{fresh-sizes}
+use Rattle.rules.specs.laws.history.Counting.{ran-keeps}
 
 -- ---- which link a step names
 -- two sites whose link lies at the place of a link are its sites
@@ -71,6 +72,13 @@ set-read P (x ∷ xs) (suc j) (suc i) p new old = set-read P xs j i p new old
 pub entries-stay : (run : Run) (s : State) (event : Event) → length (afterEvent run s event .ledger .pairs) ≡ length (s .ledger .pairs)
 entries-stay run s = by-event run s isSend (λ t n ss l. length (l .pairs) ≡ length (s .ledger .pairs))
     (λ step. by-acceptance run s step (λ t u. length (u .ledger .pairs) ≡ length (s .ledger .pairs)) (λ a. length-set (s .ledger .pairs) (effectOf run s step .post .link) (effectOf run s step .post .pair)) refl) refl
+
+pub ran-entries-stay : (run : Run) (s : State) (events : List Event) → length (ran run s events .ledger .pairs) ≡ length (s .ledger .pairs)
+ran-entries-stay run s events = ran-keeps run (λ u. length (u .ledger .pairs) ≡ length (s .ledger .pairs)) (λ u event h. entries-stay run u event ∙ h) s events refl
+
+pub fresh-entries-stay : (run : Run) (first : ℕ) (s : State) → freshRefusal run (length (s .words)) (length (s .slots)) ≡ 0 → length (afterFresh run first s .ledger .pairs) ≡ length (s .ledger .pairs)
+unfolding afterFresh
+fresh-entries-stay run first s fresh = rw fresh (begun-length (run .sites) first (s .ledger .pairs))
 
 -- ---- one link of a run
 module _ (run : Run) (few : run .sites ≤ 16) (a b : ℕ) (la : a < run .sites) (lb : b < run .sites) (d : a ≡ b → ⊥) where
@@ -323,8 +331,7 @@ module _ (run : Run) (first : ℕ) (s : State) (fresh : freshRefusal run (length
   start-pair = rw fresh (begun-link (run .sites) first (s .ledger .pairs) whole a b (omega (arith, few, la)) (omega (arith, few, lb)) d)
 
   start-whole : length (start .ledger .pairs) ≡ 256
-  unfolding afterFresh
-  start-whole = rw fresh (begun-length (run .sites) first (s .ledger .pairs) ∙ whole)
+  start-whole = fresh-entries-stay run first s fresh ∙ whole
 
   start-slots : (i : ℕ) → parcelAt start i ≡ noParcel
   unfolding afterFresh
