@@ -9,7 +9,7 @@
 #include "met.h"
 #include "model.h"
 
-static uint32_t do_absorb(rng *r, const shape *s, uint64_t site, const uint8_t *bytes, size_t n) {
+uint32_t do_absorb(rng *r, const shape *s, uint64_t site, const uint8_t *bytes, size_t n) {
     static area *const areas[] = {&words, &slots, &ledger, &value, &group_bytes, 0};
     place_bytes(r, bytes, n);
     snprintf(doing, sizeof doing, "wg_absorb sites=%" PRIu64 " capacity=%" PRIu64 " n_words=%zu n_slots=%zu site=%" PRIu64 " n=%zu bytes",

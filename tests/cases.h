@@ -24,6 +24,9 @@ void case_group(rng *r);
 /* case_absorbs.c: a group absorbed at a site */
 void case_absorb(rng *r, int large);
 
+/* case_repairs.c: the repairs of one state in two orders */
+void case_repairs(rng *r, int large);
+
 /* case_texts.c: bulk membership, lines, reports */
 void case_members(rng *r, int large);
 void case_read(rng *r);
@@ -65,7 +68,10 @@ void burst_placed(rng *r, const shape *s, size_t steps, chooser *choose);
 void place_bytes(rng *r, const uint8_t *bytes, size_t n);
 void tell_bytes(const uint8_t *bytes, size_t n);
 
-/* In case_absorbs.c: a group of the ids of the case, absorbed at a site of a run that both have. */
+/* In case_absorbs.c: bytes absorbed at a site of a run that both have, compared; the refusal. What they raised is in `value`. */
+uint32_t do_absorb(rng *r, const shape *s, uint64_t site, const uint8_t *bytes, size_t n);
+
+/* A group of the ids of the case, likewise. */
 void absorb_some(rng *r, const shape *s);
 
 #endif

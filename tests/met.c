@@ -153,6 +153,7 @@ int print_met(void) {
     missed += print_counts("bursts", burst_names, bursts, 4);
     missed += print_counts("serials", serial_names, serials, serial_count);
     missed += print_counts("merges", merge_names, merges, merge_count);
+    missed += print_counts("repairs in two orders", repair_names, repairs, repair_count);
     sum_up_lines();
     missed += print_counts("numbers in lines", line_names, lines, line_count);
     return missed + print_groups();

@@ -78,6 +78,14 @@ extern const char *const line_names[];
 extern uint64_t lines[];
 extern const int line_count;
 
+/* met_repairs.c: repairs of one state in two orders, which name so many ids together, and whether they ended with the same tables. */
+enum { ONE_SITE, ALL_SITES, GROUPED, REPAIR_KINDS };
+void meet_repairs(int kind, const shape *s, size_t needs, int same);
+
+extern const char *const repair_names[];
+extern uint64_t repairs[];
+extern const int repair_count;
+
 /* Prints all of it, and returns how much was not met, or a refusal too seldom. */
 int print_met(void);
 
