@@ -33,7 +33,7 @@ use Rattle.rules.specs.meaning.Leb.{leb128, readLeb}
 use Rattle.rules.specs.meaning.Groups.{isGroup, groupBytes, group, groupOf, entriesIn}
 use Rattle.rules.specs.meaning.Events.{Event, takes, absorbs, outcome, refusalFor, answerFor, afterEvent}
 use Rattle.rules.specs.meaning.Histories.{ran, acceptedOf, pairIn, isSendOn, sentOn, serialsFrom, absorbed, largest, samePairs, offered, among, distinct, lengthIn}
-use Rattle.rules.specs.meaning.Repairs.{TableOf, emptyTable, areSound, entriesOfAll, fitTogether, takenIn, allTaken, Repair, areProper, allAt, operations, allAccepted, named, fitEverywhere, sameEverywhere}
+use Rattle.rules.specs.meaning.Repairs.{TableOf, emptyTable, areSound, entriesOfAll, fitTogether, takenIn, allTaken, Repair, areProper, allAt, operations, allAccepted, named, cameTo, fitEverywhere, sameEverywhere}
 use Rattle.rules.specs.meaning.Padding.{unpadded, isPadded, hasShortNumbers}
 use Rattle.rules.specs.meaning.Lines.{textOf, namesStep, numbersOf}
 use Rattle.rules.specs.meaning.StepLines.{lineOf, stepOf, Fits}
@@ -312,6 +312,10 @@ module _ (c : ℕ) where
   pub an-equal-table-changes-nothing : (a : List ℕ) → TableOf c a → (mergeAnswer a a ≡ answer accepted 0) × (mergeTable a a ≡ a)
   an-equal-table-changes-nothing = Repairs.equal-changes-nothing c
 
+  -- so a shift can tell equal tables: merged either way, no length rises
+  pub no-rise-either-way-is-equal : (a b : List ℕ) → TableOf c a → TableOf c b → rises a b ≡ 0 → rises b a ≡ 0 → a ≡ b
+  no-rise-either-way-is-equal = Repairs.no-rise-is-equal c
+
   -- "either one merged into the other gives the same table"
   pub either-into-the-other : (a b : List ℕ) → TableOf c a → TableOf c b → fitTogether c (a ∷ b ∷ []) ≡ true
       → (mergeRefusal a b ≡ accepted) × (mergeRefusal b a ≡ accepted) × (mergeTable a b ≡ mergeTable b a)
@@ -344,7 +348,13 @@ module _ (run : Run) (s : State) (sound : StateSound run s) (whole : length (s .
       → (allAccepted run s (operations xs) ≡ true) × (allAccepted run s (operations ys) ≡ true) × (ran run s (operations xs) ≡ ran run s (operations ys))
   one-site-in-any-order = Orders.any-order-at-a-site run s sound whole
 
-  -- of any sites, as the shifts did: where the same set of entries comes to each site by either list, by itself or by way of others
+  -- of any sites: each then holds the largest of the lengths that came to it, by itself or by way of others, from the tables as they stood
+  pub each-site-holds-what-came : (xs : List Repair) → areProper run xs ≡ true → fitEverywhere run s xs ≡ true
+      → (allAccepted run s (operations xs) ≡ true)
+      × ((k : ℕ) → k < run .sites → (e : ℕ) → lengthIn run (ran run s (operations xs)) k e ≡ largest (entriesOfAll (cameTo run s xs k)) e)
+  each-site-holds-what-came = Orders.holds-what-came run s sound
+
+  -- so two lists, as the shifts had, leave one state where the same set of entries comes to each site by either
   pub all-sites-in-any-order : (xs ys : List Repair) → areProper run xs ≡ true → areProper run ys ≡ true → fitEverywhere run s xs ≡ true → sameEverywhere run s xs ys ≡ true
       → (allAccepted run s (operations xs) ≡ true) × (allAccepted run s (operations ys) ≡ true) × (ran run s (operations xs) ≡ ran run s (operations ys))
   all-sites-in-any-order = Orders.any-order-everywhere run s sound whole

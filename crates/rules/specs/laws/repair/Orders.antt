@@ -74,14 +74,27 @@ module _ (run : Run) (s : State) (so : StateSound run s) where
         )
 
   -- ---- repairs of any sites
+  abbrev ids-come : List Repair → ℕ → List ℕ
+  ids-come xs k = idsAmong (entriesOfAll (cameTo run s xs k))
+
+  few-come : (xs : List Repair) → fitEverywhere run s xs ≡ true → (k : ℕ) → k < run .sites → distinct (ids-come xs k) ≤ run .capacity
+  unfolding fitEverywhere
+  few-come xs fit k l = fit-few (run .capacity) (cameTo run s xs k) (at-each _ (run .sites) fit k l)
+
+  all-inside : (xs : List Repair) → InsideAll run (ids-come xs) (cameTo run s xs)
+  all-inside xs k l x p = pairs-among (entriesOfAll (cameTo run s xs k)) x p
+
+  -- each site ends with the largest of the lengths that came to it
+  pub holds-what-came : (xs : List Repair) → areProper run xs ≡ true → fitEverywhere run s xs ≡ true
+      → (allAccepted run s (operations xs) ≡ true) × Holds run (ran run s (operations xs)) (cameTo run s xs)
+  holds-what-came xs proper fit = repair-all run (ids-come xs) (few-come xs fit) xs s (ownTable run s) so own-holds proper (all-inside xs)
+
   module _ (whole : length (s .ledger .pairs) ≡ 256) (xs ys : List Repair) (proper : areProper run xs ≡ true) (proper′ : areProper run ys ≡ true) where
     pub any-order-everywhere : fitEverywhere run s xs ≡ true → sameEverywhere run s xs ys ≡ true
         → (allAccepted run s (operations xs) ≡ true) × (allAccepted run s (operations ys) ≡ true) × (ran run s (operations xs) ≡ ran run s (operations ys))
-    unfolding fitEverywhere sameEverywhere
-    any-order-everywhere fit alike = same-end whole (λ k. idsAmong (entriesOfAll (cameTo run s xs k)))
-        (λ k l. fit-few (run .capacity) (cameTo run s xs k) (at-each _ (run .sites) fit k l)) xs ys proper proper′
-        (λ k l x p. pairs-among (entriesOfAll (cameTo run s xs k)) x p)
-        (λ k l x. same-largest _ _ (at-each _ (run .sites) alike k l) x)
+    unfolding sameEverywhere
+    any-order-everywhere fit alike =
+        same-end whole (ids-come xs) (few-come xs fit) xs ys proper proper′ (all-inside xs) (λ k l x. same-largest _ _ (at-each _ (run .sites) alike k l) x)
 
 -- ---- repairs of one site: it has its own table and all that is named, and every other site has its own table
 module _ (run : Run) (s : State) (so : StateSound run s) (whole : length (s .ledger .pairs) ≡ 256) (k : ℕ) (xs ys : List Repair) (proper : areProper run xs ≡ true) (proper′ : areProper run ys ≡ true)

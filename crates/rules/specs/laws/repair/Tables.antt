@@ -19,7 +19,7 @@ use Rattle.rules.specs.laws.Lengths.{join-commutes, join-associates}
 use Rattle.rules.specs.laws.table.View.{Sound.rest, parts, say}
 use Rattle.rules.specs.laws.table.Law.{law, of-unused}
 use Rattle.rules.specs.laws.table.Update.{held-fits}
-use Rattle.rules.specs.laws.table.Merge.{still, still-room}
+use Rattle.rules.specs.laws.table.Merge.{none-rises, still, still-room}
 use Rattle.rules.specs.laws.table.Operations.{merge-accepted}
 use Rattle.rules.specs.laws.run.Zeros.{all-unused}
 use Rattle.rules.specs.laws.history.Climbing.{among-same}
@@ -69,6 +69,10 @@ module _ (c : ℕ) where
   -- "merging a table with an equal one changes nothing"
   pub equal-changes-nothing : (a : List ℕ) → TableOf c a → (mergeAnswer a a ≡ answer accepted 0) × (mergeTable a a ≡ a)
   equal-changes-nothing a ta = nothing-new a a (ta .1) (ta .1) (λ x. le-refl (lengthOf a x))
+
+  -- and back: where neither merge raises a length the tables are equal
+  pub no-rise-is-equal : (a b : List ℕ) → TableOf c a → TableOf c b → rises a b ≡ 0 → rises b a ≡ 0 → a ≡ b
+  no-rise-is-equal a b ta tb p q = one-table c a b ta tb (λ x. omega (arith, none-rises M a b (ta .1) (tb .1) p x, none-rises M b a (tb .1) (ta .1) q x))
 
   -- "either one merged into the other gives the same table"
   pub either-way : (a b : List ℕ) → TableOf c a → TableOf c b → fitTogether c (a ∷ b ∷ []) ≡ true

@@ -150,6 +150,10 @@ module _ (most : ℕ) (t s : List ℕ) (h : sound most t ≡ true) (r : sound mo
   pub new-rises : newIds t s ≤ rises t s
   new-rises = new-rises′ (seen {most = most} {lo = 0} r) t
 
+  -- where no length rises none of s is above that of t
+  pub none-rises : rises t s ≡ 0 → (y : ℕ) → lengthOf s y ≤ lengthOf t y
+  none-rises q y = none-rises′ (seen {most = most} {lo = 0} r) t q y
+
   -- a merge in which no length rises needs no room and changes nothing
   pub still-room : rises t s ≡ 0 → heldMerged t s ≤ capacity t
   still-room q = omega (arith, new-rises, held-fits most t 0 h)
@@ -157,4 +161,4 @@ module _ (most : ℕ) (t s : List ℕ) (h : sound most t ≡ true) (r : sound mo
   pub still : rises t s ≡ 0 → merged t s ≡ t
   still q =
       let a = merged-of most t s h r (still-room q) in
-      law most (a .ok) h (a .size) (λ y. omega (arith, a .of y, none-rises′ (seen {most = most} {lo = 0} r) t q y))
+      law most (a .ok) h (a .size) (λ y. omega (arith, a .of y, none-rises q y))
