@@ -332,6 +332,10 @@ module _ (c : ℕ) where
       → (mergeAnswer a (emptyTable c) ≡ answer accepted 0) × (mergeTable a (emptyTable c) ≡ a) × (mergeRefusal (emptyTable c) a ≡ accepted) × (mergeTable (emptyTable c) a ≡ a)
   the-empty-table-changes-nothing = Repairs.empty-changes-nothing c
 
+  -- all that is named is accepted exactly where its ids and the table's fit together: with one more, something is refused in every order
+  pub taken-exactly-where-it-fits : (t : List ℕ) (xs : List (List ℕ)) → TableOf c t → areSound xs ≡ true → allTaken t xs ≡ fitTogether c (t ∷ xs)
+  taken-exactly-where-it-fits = Repairs.taken-where-it-fits c
+
   -- "Groups absorbed in any order, or twice, likewise leave the same table": two lists of groups, or of whole tables, or of both, with one set of entries
   pub any-order-or-twice : (t : List ℕ) (xs ys : List (List ℕ)) → TableOf c t → areSound xs ≡ true → areSound ys ≡ true
       → samePairs (entriesOfAll xs) (entriesOfAll ys) ≡ true → fitTogether c (t ∷ xs) ≡ true
@@ -346,12 +350,15 @@ module _ (run : Run) (s : State) (sound : StateSound run s) (whole : length (s .
       → fitTogether (run .capacity) (tableAt run (s .words) k ∷ named run s xs) ≡ true
       → samePairs (entriesOfAll (named run s xs)) (entriesOfAll (named run s ys)) ≡ true
       → (allAccepted run s (operations xs) ≡ true) × (allAccepted run s (operations ys) ≡ true) × (ran run s (operations xs) ≡ ran run s (operations ys))
-  one-site-in-any-order = Orders.any-order-at-a-site run s sound whole
+  one-site-in-any-order k = Orders.any-order-at-a-site run s sound k whole
 
-  -- of any sites: each then holds the largest of the lengths that came to it, by itself or by way of others, from the tables as they stood
-  pub each-site-holds-what-came : (xs : List Repair) → areProper run xs ≡ true → fitEverywhere run s xs ≡ true
-      → (allAccepted run s (operations xs) ≡ true)
-      × ((k : ℕ) → k < run .sites → (e : ℕ) → lengthIn run (ran run s (operations xs)) k e ≡ largest (entriesOfAll (cameTo run s xs k)) e)
+  -- of any sites: they are all accepted exactly where the ids of what comes to each site, by itself or by way of others, fit it together
+  pub accepted-exactly-where-it-fits : (xs : List Repair) → areProper run xs ≡ true → allAccepted run s (operations xs) ≡ fitEverywhere run s xs
+  accepted-exactly-where-it-fits = Orders.accepted-where-it-fits run s sound
+
+  -- and each site then holds the largest of the lengths that came to it
+  pub each-site-holds-what-came : (xs : List Repair) → areProper run xs ≡ true → allAccepted run s (operations xs) ≡ true → (k : ℕ) → k < run .sites → (e : ℕ)
+      → lengthIn run (ran run s (operations xs)) k e ≡ largest (entriesOfAll (cameTo run s xs k)) e
   each-site-holds-what-came = Orders.holds-what-came run s sound
 
   -- so two lists, as the shifts had, leave one state where the same set of entries comes to each site by either

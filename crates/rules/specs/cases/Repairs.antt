@@ -13,13 +13,13 @@ use Rattle.rules.specs.meaning.Ledgers.{begunLedger, countsSound, raised
 use Rattle.rules.specs.meaning.Refusals.{firstGiven}
 use Rattle.rules.specs.meaning.Links.{pairSound, overRow, overRows, linksSound}
 use Rattle.rules.specs.meaning.States.{State, StateSound, lent, tableAt, withTable, sizesRight, tablesSound, allSound}
-use Rattle.rules.specs.meaning.Steps.{entriesOf, effect}
+use Rattle.rules.specs.meaning.Steps.{entriesOf, idsOf, effect}
 use Rattle.rules.specs.meaning.Runs.{refusalIn, refusalOf}
 use Rattle.rules.specs.meaning.Leb.{lebValue, of64, readLeb}
 use Rattle.rules.specs.meaning.Groups.{entriesFrom, groupOf, entriesIn, formsNone}
 use Rattle.rules.specs.meaning.Events.{absorbRefusal, outcome, refusalFor, afterEvent}
 use Rattle.rules.specs.meaning.Histories.{ran, occurs, within, samePairs, among, distinct}
-use Rattle.rules.specs.meaning.Repairs.{TableOf, areSound, entriesOfAll, idsAmong, fitTogether, takenIn, allTaken, Repair, merging, absorbing, isProper, areProper, allAt, operations, hasAfter, allBrought, atEach, named, fitEverywhere, sameEverywhere}
+use Rattle.rules.specs.meaning.Repairs.{TableOf, areSound, entriesOfAll, idsOfAll, fitTogether, takenIn, allTaken, Repair, merging, absorbing, isProper, areProper, allAt, operations, hasAfter, allBrought, atEach, named, fitEverywhere, sameEverywhere}
 use Rattle.rules.specs.cases.Sample.{refusals}
 use Rattle.rules.specs.laws.repair.Tables.{any-order}
 use Rattle.rules.specs.laws.repair.Orders.{any-order-everywhere, any-order-at-a-site}
@@ -63,7 +63,7 @@ pub record TakenMet : Type 0 where
   pub taken-too : (allTaken a other-order ≡ true) × (takenIn a other-order ≡ full)
 
 pub taken-met : TakenMet
-unfolding unused soundFrom lengthOf held withLength raised merged newIds rises mergeRefusal mergeAnswer mergeTable entriesOf occurs within among distinct areSound entriesOfAll idsAmong fitTogether takenIn allTaken
+unfolding unused soundFrom lengthOf held withLength raised merged newIds rises mergeRefusal mergeAnswer mergeTable entriesOf idsOf occurs within among distinct areSound entriesOfAll idsOfAll fitTogether takenIn allTaken
 taken-met = record {
   tables = ((refl, refl), (refl, refl), (refl, refl));
   sounds = (refl, refl);
@@ -134,7 +134,7 @@ pub record RepairsMet : Type 0 where
   pub shifts-words-too : ran three-sites stands (operations second-shift) .words ≡ full ++ (full ++ full)
 
 pub repairs-met : RepairsMet
-unfolding refusals ran effect entriesOf among distinct occurs within unused soundFrom lengthOf held push withLength raised merged newIds mergeRefusal mergeTable isFree slotsSound waiting countsSound raisedIf tableAt withTable sizesRight tablesSound allSound firstGiven refusalIn refusalOf outcome refusalFor afterEvent absorbRefusal lebValue of64 readLeb entriesFrom groupOf entriesIn formsNone pairSound overRow overRows linksSound entriesOfAll idsAmong fitTogether isProper areProper allAt operations hasAfter allBrought atEach fitEverywhere sameEverywhere
+unfolding refusals ran effect entriesOf idsOf among distinct occurs within unused soundFrom lengthOf held push withLength raised merged newIds mergeRefusal mergeTable isFree slotsSound waiting countsSound raisedIf tableAt withTable sizesRight tablesSound allSound firstGiven refusalIn refusalOf outcome refusalFor afterEvent absorbRefusal lebValue of64 readLeb entriesFrom groupOf entriesIn formsNone pairSound overRow overRows linksSound entriesOfAll idsOfAll fitTogether isProper areProper allAt operations hasAfter allBrought atEach fitEverywhere sameEverywhere
 repairs-met = record {
   proper = (refl, refl);
   all-at-0 = (refl, refl);
@@ -158,7 +158,7 @@ repairs-met = record {
 pub site-alike : ran three-sites stands (operations (at-0 bytes)) ≡ ran three-sites stands (operations (at-0-too bytes))
 site-alike =
     let met = repairs-met in
-    any-order-at-a-site three-sites stands stands-sound refl 0 (at-0 bytes) (at-0-too bytes) (met .proper .0) (met .proper .1) (met .all-at-0 .0) (met .all-at-0 .1) (met .fits) (met .same-set) .2
+    any-order-at-a-site three-sites stands stands-sound 0 refl (at-0 bytes) (at-0-too bytes) (met .proper .0) (met .proper .1) (met .all-at-0 .0) (met .all-at-0 .1) (met .fits) (met .same-set) .2
 
 pub shifts-alike : ran three-sites stands (operations first-shift) ≡ ran three-sites stands (operations second-shift)
 shifts-alike =

@@ -13,7 +13,7 @@ use Rattle.rules.specs.meaning.Lengths.{M}
 use Rattle.rules.specs.meaning.Table.{sound, SoundTable}
 use Rattle.rules.specs.meaning.Operations.{accepted, mergeRefusal, mergeTable}
 use Rattle.rules.specs.meaning.States.{State, tableAt}
-use Rattle.rules.specs.meaning.Steps.{Entry, entriesOf}
+use Rattle.rules.specs.meaning.Steps.{Entry, entriesOf, idsOf}
 use Rattle.rules.specs.meaning.Groups.{entriesIn, formsNone}
 use Rattle.rules.specs.meaning.Events.{Event, takes, absorbs, afterEvent}
 use Rattle.rules.specs.meaning.Histories.{isAccepted, samePairs, distinct}
@@ -36,13 +36,14 @@ unfoldable pub entriesOfAll : List (List ℕ) → List Entry
 entriesOfAll [] = []
 entriesOfAll (t ∷ named) = entriesOf t ++ entriesOfAll named
 
-unfoldable pub idsAmong : List Entry → List ℕ
-idsAmong [] = []
-idsAmong (p ∷ ps) = p .id ∷ idsAmong ps
+-- and their ids
+unfoldable pub idsOfAll : List (List ℕ) → List ℕ
+idsOfAll [] = []
+idsOfAll (t ∷ named) = idsOf t ++ idsOfAll named
 
 -- "where the ids of all tables and groups named fit it together": there are no more different ones than the capacity
 unfoldable pub fitTogether : ℕ → List (List ℕ) → Bool
-fitTogether c named = leb (distinct (idsAmong (entriesOfAll named))) c
+fitTogether c named = leb (distinct (idsOfAll named)) c
 
 -- ---- one table takes in all that is named, in order
 unfoldable pub takenIn : List ℕ → List (List ℕ) → List ℕ

@@ -1,18 +1,19 @@
 -- What the sites have after some repairs: nothing goes away, and repairs of one site bring it all that they proper and leave the others as they are.
 -- Assumes nothing.
-use Prim.Native.Nat.{ℕ, _≤_}
+use Prim.Native.Nat.{ℕ, _≤_, _<_}
 use native.Mathlib.Nat.{le-refl, le-trans}
 use native.Mathlib.Omega.{arith}
 use mathlib.Core.Bool.{Bool, true, false, cond}
 use mathlib.Core.Path.{_≡_, refl, sym, _∙_}
 use mathlib.Core.List.{List, [], _∷_, _++_, append-assoc, append-nil}
 use lib.Dec.{eqb, ltb}
-use borrow.Author.Tests.{eq-eqb, ne-eqb, eqb-true, eqb-false, not-true}
+use borrow.Author.Tests.{ltb-true, eq-eqb, ne-eqb, eqb-true, eqb-false, not-true}
 use Rattle.rules.specs.declared.Run.{Run}
 use Rattle.rules.specs.meaning.Histories.{largest}
-use Rattle.rules.specs.meaning.Repairs.{entriesOfAll, Repair, merging, absorbing, siteOf, isProper, areProper, allAt, brings, having, hasAfter, allBrought}
+use Rattle.rules.specs.meaning.Repairs.{areSound, entriesOfAll, Repair, merging, absorbing, siteOf, isProper, areProper, allAt, brings, having, hasAfter, allBrought}
 use Rattle.rules.specs.laws.table.View.{parts}
-use Rattle.rules.specs.laws.repair.Fits.{largest-both}
+use Rattle.rules.specs.laws.group.Groups.{entries-sound}
+use Rattle.rules.specs.laws.repair.Fits.{largest-both, sound-both}
 
 -- nothing that a site has goes away
 having-grows : (has : ℕ → List (List ℕ)) (r : Repair) (k x : ℕ) → largest (entriesOfAll (has k)) x ≤ largest (entriesOfAll (having has r k)) x
@@ -30,6 +31,24 @@ after-grows (r ∷ repairs) has k x = le-trans (having-grows has r k x) (after-g
 -- the site of a repair has what it had and what is brought
 pub having-there : (has : ℕ → List (List ℕ)) (r : Repair) → having has r (siteOf r) ≡ has (siteOf r) ++ brings has r
 having-there has r = rw (eq-eqb (siteOf r) (siteOf r) refl)
+
+-- ---- what they have is laid out as tables are, where it is so at the start
+brings-sound : (run : Run) (has : ℕ → List (List ℕ)) (r : Repair) → isProper run r ≡ true → ((k : ℕ) → k < run .sites → areSound (has k) ≡ true) → areSound (brings has r) ≡ true
+unfolding isProper areSound
+brings-sound run has (merging f t) proper sounds = sounds f (ltb-true _ _ (parts (ltb f (run .sites)) _ proper .0))
+brings-sound run has (absorbing t bytes) proper sounds = rw (entries-sound bytes)
+
+pub after-sound : (run : Run) (repairs : List Repair) (has : ℕ → List (List ℕ)) → areProper run repairs ≡ true → ((k : ℕ) → k < run .sites → areSound (has k) ≡ true)
+    → (k : ℕ) → k < run .sites → areSound (hasAfter has repairs k) ≡ true
+unfolding areProper hasAfter
+after-sound run [] has proper sounds k l = sounds k l
+after-sound run (r ∷ repairs) has proper sounds k l =
+    let p = parts (isProper run r) _ proper in
+    after-sound run repairs (having has r) (p .1) (λ j m. one j m (eqb (siteOf r) j) (brings-sound run has r (p .0) sounds)) k l
+  where
+    one : (j : ℕ) → j < run .sites → (b : Bool) → areSound (brings has r) ≡ true → areSound (cond b (has j ++ brings has r) (has j)) ≡ true
+    one j m true brought = sound-both (has j) (brings has r) (sounds j m) brought
+    one j m false brought = sounds j m
 
 -- ---- repairs of one site
 module _ (run : Run) (k : ℕ) where

@@ -10,7 +10,7 @@ use mathlib.Core.List.{List, [], _∷_, _++_}
 use lib.ListN.{length}
 use lib.Seq.{set-out}
 use lib.Dec.{eqb, ltb}
-use borrow.Author.Tests.{lt-leb, ltb-true, le-ltb, not-true}
+use borrow.Author.Tests.{lt-leb, ltb-true, le-ltb, eqb-true, not-true}
 use Rattle.rules.specs.declared.Run.{Run}
 use Rattle.rules.specs.declared.Step.the-variants.{Merge}
 use Rattle.rules.specs.meaning.Lengths.{join}
@@ -25,7 +25,7 @@ use Rattle.rules.specs.meaning.Steps.{effect}
 use Rattle.rules.specs.meaning.Runs.{after}
 use Rattle.rules.specs.meaning.Groups.{entriesIn, formsNone}
 use Rattle.rules.specs.meaning.Events.{takes, outcome, refusalFor, afterEvent}
-use Rattle.rules.specs.meaning.Histories.{ran, lengthIn, largest, among, distinct}
+use Rattle.rules.specs.meaning.Histories.{ran, isAccepted, lengthIn, largest, among, distinct}
 use Rattle.rules.specs.meaning.Repairs.{entriesOfAll, Repair, merging, absorbing, siteOf, isProper, areProper, operation, operations, allAccepted, brings, having, hasAfter}
 use Rattle.rules.specs.laws.table.View.{parts}
 use Rattle.rules.specs.laws.table.Operations.{room-within}
@@ -115,23 +115,30 @@ module _ (run : Run) (s : State) (so : StateSound run s) (has : ℕ → List (Li
       (source-sound run s so r h) (λ x p. inside x (omega (arith, both x))) (λ x p. inside x (omega (arith, both x))) .taken)
 
 -- ---- some repairs, in order
+-- accepted, they leave each site with the largest of what it then has
+pub accepted-holds : (run : Run) (repairs : List Repair) (s : State) (has : ℕ → List (List ℕ)) → StateSound run s → Holds run s has → areProper run repairs ≡ true
+    → allAccepted run s (operations repairs) ≡ true → Holds run (ran run s (operations repairs)) (hasAfter has repairs)
+unfolding areProper allAccepted operations ran hasAfter
+accepted-holds run [] s has so holds proper accepts = holds
+accepted-holds run (r ∷ repairs) s has so holds proper accepts =
+    let p = parts (isProper run r) _ proper in
+    let a = parts (isAccepted run s (operation r)) _ accepts in
+    accepted-holds run repairs (afterEvent run s (operation r)) (having has r) (event-sound run s (operation r) so) (repair-holds run s so has holds r (p .0) (eqb-true _ _ (a .0))) (p .1) (a .1)
+
 -- each site of the run has no id but of some
 abbrev pub InsideAll : Run → (ℕ → List ℕ) → (ℕ → List (List ℕ)) → Type 0
 InsideAll run ids has = (k : ℕ) → k < run .sites → (x : ℕ) → 1 ≤ largest (entriesOfAll (has k)) x → among x (ids k) ≡ true
 
--- where there is room for those, every repair is accepted, and at the end each site holds the largest of what it has
-module _ (run : Run) (ids : ℕ → List ℕ) (few : (k : ℕ) → k < run .sites → distinct (ids k) ≤ run .capacity) where
-  pub repair-all : (repairs : List Repair) (s : State) (has : ℕ → List (List ℕ)) → StateSound run s → Holds run s has → areProper run repairs ≡ true
-      → InsideAll run ids (hasAfter has repairs)
-      → (allAccepted run s (operations repairs) ≡ true) × Holds run (ran run s (operations repairs)) (hasAfter has repairs)
-  unfolding areProper allAccepted operations ran hasAfter
-  repair-all [] s has so holds proper inside = (refl, holds)
-  repair-all (r ∷ repairs) s has so holds proper inside =
-      let n = parts (isProper run r) _ proper in
-      let l = proper-site run r (n .0) in
-      let ok = repair-fits run s so has holds (ids (siteOf r)) (few (siteOf r) l) r (n .0) (λ x p. inside (siteOf r) l x (le-trans p (after-grows repairs (having has r) (siteOf r) x))) in
-      let rest = repair-all repairs (afterEvent run s (operation r)) (having has r) (event-sound run s (operation r) so) (repair-holds run s so has holds r (n .0) ok) (n .1) inside in
-      (rw ok (rest .0), rest .1)
+-- where there is room for those that it has at the end, they are accepted
+pub accept-all : (run : Run) (ids : ℕ → List ℕ) → ((k : ℕ) → k < run .sites → distinct (ids k) ≤ run .capacity) → (repairs : List Repair) (s : State) (has : ℕ → List (List ℕ))
+    → StateSound run s → Holds run s has → areProper run repairs ≡ true → InsideAll run ids (hasAfter has repairs) → allAccepted run s (operations repairs) ≡ true
+unfolding areProper allAccepted operations hasAfter
+accept-all run ids few [] s has so holds proper inside = refl
+accept-all run ids few (r ∷ repairs) s has so holds proper inside =
+    let p = parts (isProper run r) _ proper in
+    let l = proper-site run r (p .0) in
+    let ok = repair-fits run s so has holds (ids (siteOf r)) (few (siteOf r) l) r (p .0) (λ x some. inside (siteOf r) l x (le-trans some (after-grows repairs (having has r) (siteOf r) x))) in
+    rw ok (accept-all run ids few repairs (afterEvent run s (operation r)) (having has r) (event-sound run s (operation r) so) (repair-holds run s so has holds r (p .0) ok) (p .1) inside)
 
 -- ---- the slots and the ledger stay, in a ledger of 256 entries, as its type has it
 repair-leaves : (run : Run) (s : State) → length (s .ledger .pairs) ≡ 256 → (r : Repair) → (afterEvent run s (operation r) .slots ≡ s .slots) × (afterEvent run s (operation r) .ledger ≡ s .ledger)

@@ -4,29 +4,30 @@
 use Prim.Native.Nat.{ℕ, _*_, _≤_}
 use native.Mathlib.Nat.{le-refl}
 use native.Mathlib.Omega.{arith}
-use mathlib.Core.Bool.{true, false≢true}
+use mathlib.Core.Bool.{Bool, true, false, false≢true}
 use mathlib.Core.Path.{_≡_, refl, sym, ap, _∙_}
 use mathlib.Core.List.{List, [], _∷_}
 use lib.ListN.{length, length-replicate}
-use borrow.Author.Tests.{le-ltb}
+use lib.Dec.{eqb}
+use borrow.Author.Tests.{le-ltb, eqb-true}
 use Rattle.rules.specs.meaning.Lengths.{M, join}
 use Rattle.rules.specs.meaning.Table.{SoundTable, sound, lengthOf, rises}
 use Rattle.rules.specs.meaning.Operations.{accepted, answer, mergeRefusal, mergeAnswer, mergeTable}
 use Rattle.rules.specs.meaning.Steps.{idsOf}
 use Rattle.rules.specs.meaning.Histories.{largest, samePairs, among, distinct}
-use Rattle.rules.specs.meaning.Repairs.{TableOf, emptyTable, areSound, entriesOfAll, idsAmong, fitTogether, takenIn, allTaken}
+use Rattle.rules.specs.meaning.Repairs.{TableOf, emptyTable, areSound, entriesOfAll, idsOfAll, fitTogether, takenIn, allTaken}
 use Rattle.rules.specs.laws.Lengths.{join-commutes, join-associates}
 use Rattle.rules.specs.laws.table.View.{Sound.rest, parts, say}
 use Rattle.rules.specs.laws.table.Law.{law, of-unused}
 use Rattle.rules.specs.laws.table.Update.{held-fits}
 use Rattle.rules.specs.laws.table.Merge.{none-rises, still, still-room}
-use Rattle.rules.specs.laws.table.Operations.{merge-accepted}
+use Rattle.rules.specs.laws.table.Operations.{merge-accepted, merge-sound, merge-length, merge-of}
 use Rattle.rules.specs.laws.run.Zeros.{all-unused}
 use Rattle.rules.specs.laws.history.Climbing.{among-same}
 use Rattle.rules.specs.laws.history.Held.{ids-distinct, held-among}
 use Rattle.rules.specs.laws.history.Pairs.{same-largest}
 use Rattle.rules.specs.laws.history.Rising.{risen, risen-count, risen-among}
-use Rattle.rules.specs.laws.repair.Fits.{Inside, pairs-among, fit-few, largest-first, covered-inside, joined}
+use Rattle.rules.specs.laws.repair.Fits.{largest-first, length-among, fit-few, held-fit, Inside, covered-inside, joined}
 
 -- two tables of one capacity with the same lengths are one
 pub one-table : (c : ℕ) (t u : List ℕ) → TableOf c t → TableOf c u → ((x : ℕ) → lengthOf t x ≡ lengthOf u x) → t ≡ u
@@ -48,21 +49,34 @@ module _ (t s : List ℕ) (ok : SoundTable t) (other : SoundTable s) (covered : 
       (taken .0 ∙ ap (answer accepted) none, taken .1 ∙ still M t s ok other none)
 
 -- ---- all that is named, taken in one after the other
-pub record Taken (c : ℕ) (t : List ℕ) (named : List (List ℕ)) : Type 0 where
-  pub all : allTaken t named ≡ true
-  pub table : TableOf c (takenIn t named)
-  pub of : (x : ℕ) → lengthOf (takenIn t named) x ≡ join (lengthOf t x) (largest (entriesOfAll named) x)
-
-take-all : (c : ℕ) (ids : List ℕ) → distinct ids ≤ c → (named : List (List ℕ)) → areSound named ≡ true → ((x : ℕ) → 1 ≤ largest (entriesOfAll named) x → among x ids ≡ true)
-    → (t : List ℕ) → TableOf c t → Inside ids t → Taken c t named
+-- accepted, it leaves the largest of all lengths
+taken-of : (c : ℕ) (named : List (List ℕ)) → areSound named ≡ true → (t : List ℕ) → TableOf c t → allTaken t named ≡ true
+    → TableOf c (takenIn t named) × ((x : ℕ) → lengthOf (takenIn t named) x ≡ join (lengthOf t x) (largest (entriesOfAll named) x))
 unfolding areSound allTaken takenIn entriesOfAll largest
-take-all c ids few [] sounds in-all t table in-t = record { all = refl; table = table; of = λ x. omega arith }
+taken-of c [] sounds t table taken = (table, λ x. omega arith)
+taken-of c (s ∷ named) sounds t table taken =
+    let ok = parts (sound M s) _ sounds in
+    let a = parts (eqb (mergeRefusal t s) accepted) _ taken in
+    let one = merge-of M t s (table .1) (ok .0) (eqb-true _ _ (a .0)) in
+    let rest = taken-of c named (ok .1) (mergeTable t s) (merge-length M t s (table .1) (ok .0) ∙ table .0, merge-sound M t s (table .1) (ok .0)) (a .1) in
+    (rest .0, λ x. omega (arith, rest .1 x, one x, largest-first s named (ok .0) x))
+
+-- where there is room for the ids of all it is accepted
+take-all : (c : ℕ) (ids : List ℕ) → distinct ids ≤ c → (named : List (List ℕ)) → areSound named ≡ true → ((x : ℕ) → 1 ≤ largest (entriesOfAll named) x → among x ids ≡ true)
+    → (t : List ℕ) → TableOf c t → Inside ids t → allTaken t named ≡ true
+unfolding areSound allTaken
+take-all c ids few [] sounds in-all t table in-t = refl
 take-all c ids few (s ∷ named) sounds in-all t table in-t =
     let ok = parts (sound M s) _ sounds in
     let first = largest-first s named (ok .0) in
     let one = joined c ids few t s table (ok .0) in-t (λ x h. in-all x (omega (arith, first x))) in
-    let rest = take-all c ids few named (ok .1) (λ x h. in-all x (omega (arith, first x))) (mergeTable t s) (one .table) (one .inside) in
-    record { all = rw (one .taken) (rest .all); table = rest .table; of = λ x. omega (arith, rest .of x, one .of x, first x) }
+    rw (one .taken) (take-all c ids few named (ok .1) (λ x h. in-all x (omega (arith, first x))) (mergeTable t s) (one .table) (one .inside))
+
+-- two tests that hold for each other are one
+pub both-true : (p q : Bool) → (p ≡ true → q ≡ true) → (q ≡ true → p ≡ true) → p ≡ q
+both-true true q to back = sym (to refl)
+both-true false true to back = back refl
+both-true false false to back = refl
 
 -- ---- the laws of the request
 module _ (c : ℕ) where
@@ -77,13 +91,15 @@ module _ (c : ℕ) where
   -- "either one merged into the other gives the same table"
   pub either-way : (a b : List ℕ) → TableOf c a → TableOf c b → fitTogether c (a ∷ b ∷ []) ≡ true
       → (mergeRefusal a b ≡ accepted) × (mergeRefusal b a ≡ accepted) × (mergeTable a b ≡ mergeTable b a)
+  unfolding areSound
   either-way a b ta tb fit =
       let named = a ∷ b ∷ [] in
+      let sounds : areSound named ≡ true = rw (ta .1, tb .1) in
       let of-a = largest-first a (b ∷ []) (ta .1) in
       let of-b = largest-first b [] (tb .1) in
-      let in-a = covered-inside named a (λ x. omega (arith, of-a x)) in
-      let in-b = covered-inside named b (λ x. omega (arith, of-a x, of-b x)) in
-      let merge = joined c (idsAmong (entriesOfAll named)) (fit-few c named fit) in
+      let in-a = covered-inside named sounds a (λ x. omega (arith, of-a x)) in
+      let in-b = covered-inside named sounds b (λ x. omega (arith, of-a x, of-b x)) in
+      let merge = joined c (idsOfAll named) (fit-few c named fit) in
       let ab = merge a b ta (tb .1) in-a in-b in
       let ba = merge b a tb (ta .1) in-b in-a in
       (ab .taken, ba .taken, one-table c _ _ (ab .table) (ba .table) (λ x. ab .of x ∙ join-commutes (lengthOf a x) (lengthOf b x) ∙ sym (ba .of x)))
@@ -92,15 +108,17 @@ module _ (c : ℕ) where
   pub three-either-way : (a b d : List ℕ) → TableOf c a → TableOf c b → TableOf c d → fitTogether c (a ∷ b ∷ d ∷ []) ≡ true
       → (mergeRefusal a b ≡ accepted) × (mergeRefusal (mergeTable a b) d ≡ accepted) × (mergeRefusal b d ≡ accepted) × (mergeRefusal a (mergeTable b d) ≡ accepted)
       × (mergeTable (mergeTable a b) d ≡ mergeTable a (mergeTable b d))
+  unfolding areSound
   three-either-way a b d ta tb td fit =
       let named = a ∷ b ∷ d ∷ [] in
+      let sounds : areSound named ≡ true = rw (ta .1, tb .1, td .1) in
       let of-a = largest-first a (b ∷ d ∷ []) (ta .1) in
       let of-b = largest-first b (d ∷ []) (tb .1) in
       let of-d = largest-first d [] (td .1) in
-      let in-a = covered-inside named a (λ x. omega (arith, of-a x)) in
-      let in-b = covered-inside named b (λ x. omega (arith, of-a x, of-b x)) in
-      let in-d = covered-inside named d (λ x. omega (arith, of-a x, of-b x, of-d x)) in
-      let merge = joined c (idsAmong (entriesOfAll named)) (fit-few c named fit) in
+      let in-a = covered-inside named sounds a (λ x. omega (arith, of-a x)) in
+      let in-b = covered-inside named sounds b (λ x. omega (arith, of-a x, of-b x)) in
+      let in-d = covered-inside named sounds d (λ x. omega (arith, of-a x, of-b x, of-d x)) in
+      let merge = joined c (idsOfAll named) (fit-few c named fit) in
       let ab = merge a b ta (tb .1) in-a in-b in
       let bd = merge b d tb (td .1) in-b in-d in
       let left = merge (mergeTable a b) d (ab .table) (td .1) (ab .inside) in-d in
@@ -121,15 +139,29 @@ module _ (c : ℕ) where
       let into = joined c (idsOf a) few (emptyTable c) a te (ta .1) (λ x h. absurd (omega (arith, none x))) (held-among M a (ta .1)) in
       (out .0, out .1, into .taken, one-table c _ _ (into .table) ta (λ x. omega (arith, into .of x, none x)))
 
+  -- all that is named is accepted exactly where it fits together
+  pub taken-where-it-fits : (t : List ℕ) (xs : List (List ℕ)) → TableOf c t → areSound xs ≡ true → allTaken t xs ≡ fitTogether c (t ∷ xs)
+  unfolding areSound
+  taken-where-it-fits t xs table sx = both-true (allTaken t xs) (fitTogether c (t ∷ xs))
+      (λ taken. let end = taken-of c xs sx t table taken in held-fit c (t ∷ xs) (takenIn t xs) sounds (end .0) (λ x. omega (arith, end .1 x, first x)))
+      (λ fit. take-all c (idsOfAll (t ∷ xs)) (fit-few c (t ∷ xs) fit) xs sx (λ x some. length-among (t ∷ xs) sounds x (omega (arith, first x))) t table
+      (covered-inside (t ∷ xs) sounds t (λ x. omega (arith, first x))))
+    where
+      first : (x : ℕ) → largest (entriesOfAll (t ∷ xs)) x ≡ join (lengthOf t x) (largest (entriesOfAll xs) x)
+      first = largest-first t xs (table .1)
+
+      sounds : areSound (t ∷ xs) ≡ true
+      sounds = rw (table .1) sx
+
   -- "Groups absorbed in any order, or twice, likewise leave the same table", and whole tables among them: where the set of entries is the same
   pub any-order : (t : List ℕ) (xs ys : List (List ℕ)) → TableOf c t → areSound xs ≡ true → areSound ys ≡ true → samePairs (entriesOfAll xs) (entriesOfAll ys) ≡ true
       → fitTogether c (t ∷ xs) ≡ true → (allTaken t xs ≡ true) × (allTaken t ys ≡ true) × (takenIn t xs ≡ takenIn t ys)
+  unfolding areSound
   any-order t xs ys table sx sy alike fit =
-      let ids = idsAmong (entriesOfAll (t ∷ xs)) in
-      let few = fit-few c (t ∷ xs) fit in
-      let first = largest-first t xs (table .1) in
       let agree = same-largest (entriesOfAll xs) (entriesOfAll ys) alike in
-      let in-t = covered-inside (t ∷ xs) t (λ x. omega (arith, first x)) in
-      let one = take-all c ids few xs sx (λ x h. pairs-among _ x (omega (arith, first x))) t table in-t in
-      let other = take-all c ids few ys sy (λ x h. pairs-among _ x (omega (arith, first x, agree x))) t table in-t in
-      (one .all, other .all, one-table c _ _ (one .table) (other .table) (λ x. omega (arith, one .of x, other .of x, agree x)))
+      let all-x = taken-where-it-fits t xs table sx ∙ fit in
+      let one = taken-of c xs sx t table all-x in
+      let sounds : areSound (t ∷ ys) ≡ true = rw (table .1) sy in
+      let all-y = taken-where-it-fits t ys table sy ∙ held-fit c (t ∷ ys) (takenIn t xs) sounds (one .0) (λ x. omega (arith, one .1 x, agree x, largest-first t ys (table .1) x)) in
+      let other = taken-of c ys sy t table all-y in
+      (all-x, all-y, one-table c _ _ (one .0) (other .0) (λ x. omega (arith, one .1 x, other .1 x, agree x)))
