@@ -13,6 +13,7 @@ use Rattle.rules.specs.meaning.Lengths.{M}
 use Rattle.rules.specs.meaning.States.{State, StateSound, lent, width, tableAt}
 use Rattle.rules.specs.meaning.Histories.{ran, lengthIn, largest, samePairs}
 use Rattle.rules.specs.meaning.Repairs.{areSound, entriesOfAll, idsOfAll, fitTogether, Repair, areProper, allAt, operations, allAccepted, atEach, ownTable, named, cameTo, fitEverywhere, sameEverywhere}
+use Rattle.rules.specs.laws.Bits.{both-ways}
 use Rattle.rules.specs.laws.table.Order.{Side, Side.below, Side.same, Side.above, side}
 use Rattle.rules.specs.laws.table.View.{parts}
 use Rattle.rules.specs.laws.table.Law.{law}
@@ -21,7 +22,6 @@ use Rattle.rules.specs.laws.run.Tables.{words-long, site-sound, site-len
 use Rattle.rules.specs.laws.history.Counting.{ran-sound}
 use Rattle.rules.specs.laws.history.Pairs.{same-largest}
 use Rattle.rules.specs.laws.repair.Fits.{largest-first, largest-both, length-among, fit-few, held-fit}
-use Rattle.rules.specs.laws.repair.Tables.{both-true}
 use Rattle.rules.specs.laws.repair.Having.{after-sound, others-have, site-has}
 use Rattle.rules.specs.laws.repair.Runs.{Holds, accepted-holds, accept-all, repairs-leave}
 
@@ -79,7 +79,7 @@ module _ (run : Run) (s : State) (so : StateSound run s) where
     -- they are all accepted exactly where what comes to each site fits it
     pub accepted-where-it-fits : allAccepted run s (operations xs) ≡ fitEverywhere run s xs
     unfolding fitEverywhere
-    accepted-where-it-fits = both-true (allAccepted run s (operations xs)) (fitEverywhere run s xs)
+    accepted-where-it-fits = both-ways (allAccepted run s (operations xs)) (fitEverywhere run s xs)
         (λ accepts. held-everywhere (ran run s (operations xs)) (ran-sound run s (operations xs) so) (holds-what-came accepts))
         (λ fit. accept-all run (λ k. idsOfAll (cameTo run s xs k)) (λ k l. fit-few (run .capacity) (cameTo run s xs k) (at-each _ (run .sites) fit k l)) xs s (ownTable run s) so own-holds proper
         (λ k l. length-among (cameTo run s xs k) (came-sound k l)))

@@ -4,7 +4,7 @@
 use Prim.Native.Nat.{ℕ, _*_, _≤_}
 use native.Mathlib.Nat.{le-refl}
 use native.Mathlib.Omega.{arith}
-use mathlib.Core.Bool.{Bool, true, false, false≢true}
+use mathlib.Core.Bool.{true, false, false≢true}
 use mathlib.Core.Path.{_≡_, refl, sym, ap, _∙_}
 use mathlib.Core.List.{List, [], _∷_}
 use lib.ListN.{length, length-replicate}
@@ -16,6 +16,7 @@ use Rattle.rules.specs.meaning.Operations.{accepted, answer, mergeRefusa
 use Rattle.rules.specs.meaning.Steps.{idsOf}
 use Rattle.rules.specs.meaning.Histories.{largest, samePairs, among, distinct}
 use Rattle.rules.specs.meaning.Repairs.{TableOf, emptyTable, areSound, entriesOfAll, idsOfAll, fitTogether, takenIn, allTaken}
+use Rattle.rules.specs.laws.Bits.{both-ways}
 use Rattle.rules.specs.laws.Lengths.{join-commutes, join-associates}
 use Rattle.rules.specs.laws.table.View.{Sound.rest, parts, say}
 use Rattle.rules.specs.laws.table.Law.{law, of-unused}
@@ -71,12 +72,6 @@ take-all c ids few (s ∷ named) sounds in-all t table in-t =
     let first = largest-first s named (ok .0) in
     let one = joined c ids few t s table (ok .0) in-t (λ x h. in-all x (omega (arith, first x))) in
     rw (one .taken) (take-all c ids few named (ok .1) (λ x h. in-all x (omega (arith, first x))) (mergeTable t s) (one .table) (one .inside))
-
--- two tests that hold for each other are one
-pub both-true : (p q : Bool) → (p ≡ true → q ≡ true) → (q ≡ true → p ≡ true) → p ≡ q
-both-true true q to back = sym (to refl)
-both-true false true to back = back refl
-both-true false false to back = refl
 
 -- ---- the laws of the request
 module _ (c : ℕ) where
@@ -142,7 +137,7 @@ module _ (c : ℕ) where
   -- all that is named is accepted exactly where it fits together
   pub taken-where-it-fits : (t : List ℕ) (xs : List (List ℕ)) → TableOf c t → areSound xs ≡ true → allTaken t xs ≡ fitTogether c (t ∷ xs)
   unfolding areSound
-  taken-where-it-fits t xs table sx = both-true (allTaken t xs) (fitTogether c (t ∷ xs))
+  taken-where-it-fits t xs table sx = both-ways (allTaken t xs) (fitTogether c (t ∷ xs))
       (λ taken. let end = taken-of c xs sx t table taken in held-fit c (t ∷ xs) (takenIn t xs) sounds (end .0) (λ x. omega (arith, end .1 x, first x)))
       (λ fit. take-all c (idsOfAll (t ∷ xs)) (fit-few c (t ∷ xs) fit) xs sx (λ x some. length-among (t ∷ xs) sounds x (omega (arith, first x))) t table
       (covered-inside (t ∷ xs) sounds t (λ x. omega (arith, first x))))
