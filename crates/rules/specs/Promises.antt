@@ -33,7 +33,7 @@ use Rattle.rules.specs.meaning.Leb.{leb128, readLeb}
 use Rattle.rules.specs.meaning.Groups.{isGroup, groupBytes, group, groupOf, entriesIn}
 use Rattle.rules.specs.meaning.Events.{Event, takes, absorbs, outcome, refusalFor, answerFor, afterEvent}
 use Rattle.rules.specs.meaning.Histories.{ran, acceptedOf, pairIn, isSendOn, sentOn, serialsFrom, absorbed, largest, samePairs, offered, among, distinct, lengthIn}
-use Rattle.rules.specs.meaning.Repairs.{TableOf, emptyTable, areSound, entriesOfAll, fitTogether, takenIn, allTaken, Repair, areProper, allAt, operations, allAccepted, named, cameTo, fitEverywhere, sameEverywhere}
+use Rattle.rules.specs.meaning.Repairs.{TableOf, emptyTable, areSound, entriesOfAll, fitTogether, takenIn, allTaken, Repair, areProper, allAt, operations, allAccepted, named, cameTo, fitEverywhere, sameEverywhere, OneEnd}
 use Rattle.rules.specs.meaning.Padding.{unpadded, isPadded, hasShortNumbers}
 use Rattle.rules.specs.meaning.Lines.{textOf, namesStep, numbersOf}
 use Rattle.rules.specs.meaning.StepLines.{lineOf, stepOf, Fits}
@@ -349,7 +349,7 @@ module _ (run : Run) (s : State) (sound : StateSound run s) (whole : length (s .
   pub one-site-in-any-order : (k : ℕ) (xs ys : List Repair) → areProper run xs ≡ true → areProper run ys ≡ true → allAt k xs ≡ true → allAt k ys ≡ true
       → fitTogether (run .capacity) (tableAt run (s .words) k ∷ named run s xs) ≡ true
       → samePairs (entriesOfAll (named run s xs)) (entriesOfAll (named run s ys)) ≡ true
-      → (allAccepted run s (operations xs) ≡ true) × (allAccepted run s (operations ys) ≡ true) × (ran run s (operations xs) ≡ ran run s (operations ys))
+      → OneEnd run s xs ys
   one-site-in-any-order k = Orders.any-order-at-a-site run s sound k whole
 
   -- of any sites: they are all accepted exactly where the ids of what comes to each site, by itself or by way of others, fit it together
@@ -363,7 +363,7 @@ module _ (run : Run) (s : State) (sound : StateSound run s) (whole : length (s .
 
   -- so two lists, as the shifts had, leave one state where the same set of entries comes to each site by either
   pub all-sites-in-any-order : (xs ys : List Repair) → areProper run xs ≡ true → areProper run ys ≡ true → fitEverywhere run s xs ≡ true → sameEverywhere run s xs ys ≡ true
-      → (allAccepted run s (operations xs) ≡ true) × (allAccepted run s (operations ys) ≡ true) × (ran run s (operations xs) ≡ ran run s (operations ys))
+      → OneEnd run s xs ys
   all-sites-in-any-order = Orders.any-order-everywhere run s sound whole
 
 -- ---- a burst, many steps in one call with the state judged once, is its steps one by one: the state that it leaves is the one after them, and the

@@ -16,7 +16,7 @@ use Rattle.rules.specs.meaning.States.{State, tableAt}
 use Rattle.rules.specs.meaning.Steps.{Entry, entriesOf, idsOf}
 use Rattle.rules.specs.meaning.Groups.{entriesIn, formsNone}
 use Rattle.rules.specs.meaning.Events.{Event, takes, absorbs, afterEvent}
-use Rattle.rules.specs.meaning.Histories.{isAccepted, samePairs, distinct}
+use Rattle.rules.specs.meaning.Histories.{ran, isAccepted, samePairs, distinct}
 
 -- ---- tables and groups, each of them words, id then length
 -- a table of a capacity, as 01 lays it out
@@ -141,3 +141,7 @@ module _ (run : Run) (s : State) where
   -- at each site the same set of entries comes by the one list of repairs and by the other
   unfoldable pub sameEverywhere : List Repair → List Repair → Bool
   sameEverywhere xs ys = atEach (λ k. samePairs (entriesOfAll (cameTo xs k)) (entriesOfAll (cameTo ys k))) (run .sites)
+
+  -- both lists are accepted, and leave the same words, slots and ledger
+  abbrev pub OneEnd : List Repair → List Repair → Type 0
+  OneEnd xs ys = (allAccepted run s (operations xs) ≡ true) × (allAccepted run s (operations ys) ≡ true) × (ran run s (operations xs) ≡ ran run s (operations ys))

@@ -12,7 +12,7 @@ use Rattle.rules.specs.declared.Run.{Run}
 use Rattle.rules.specs.meaning.Lengths.{M}
 use Rattle.rules.specs.meaning.States.{State, StateSound, lent, width, tableAt}
 use Rattle.rules.specs.meaning.Histories.{ran, lengthIn, largest, samePairs}
-use Rattle.rules.specs.meaning.Repairs.{areSound, entriesOfAll, idsOfAll, fitTogether, Repair, areProper, allAt, operations, allAccepted, atEach, ownTable, named, cameTo, fitEverywhere, sameEverywhere}
+use Rattle.rules.specs.meaning.Repairs.{areSound, entriesOfAll, idsOfAll, fitTogether, Repair, areProper, allAt, operations, allAccepted, atEach, ownTable, named, cameTo, fitEverywhere, sameEverywhere, OneEnd}
 use Rattle.rules.specs.laws.Bits.{both-ways}
 use Rattle.rules.specs.laws.table.Order.{Side, Side.below, Side.same, Side.above, side}
 use Rattle.rules.specs.laws.table.View.{parts}
@@ -87,7 +87,7 @@ module _ (run : Run) (s : State) (so : StateSound run s) where
   -- two lists of them: where the one fits, and the same largest lengths come to each site by the other, both are accepted, and leave one state
   module _ (whole : length (s .ledger .pairs) ≡ 256) (xs ys : List Repair) (proper : areProper run xs ≡ true) (proper′ : areProper run ys ≡ true) (fit : fitEverywhere run s xs ≡ true) where
     pub same-end : ((k : ℕ) → k < run .sites → (x : ℕ) → largest (entriesOfAll (cameTo run s xs k)) x ≡ largest (entriesOfAll (cameTo run s ys k)) x)
-        → (allAccepted run s (operations xs) ≡ true) × (allAccepted run s (operations ys) ≡ true) × (ran run s (operations xs) ≡ ran run s (operations ys))
+        → OneEnd run s xs ys
     same-end agree =
         let accepts = accepted-where-it-fits xs proper ∙ fit in
         let one = holds-what-came xs proper accepts in
@@ -100,7 +100,7 @@ module _ (run : Run) (s : State) (so : StateSound run s) where
         (accepts, accepts′, same-state _ _ words (left .0 ∙ sym (left′ .0)) (left .1 ∙ sym (left′ .1)))
 
     pub any-order-everywhere : sameEverywhere run s xs ys ≡ true
-        → (allAccepted run s (operations xs) ≡ true) × (allAccepted run s (operations ys) ≡ true) × (ran run s (operations xs) ≡ ran run s (operations ys))
+        → OneEnd run s xs ys
     unfolding sameEverywhere
     any-order-everywhere alike = same-end (λ k l x. same-largest _ _ (at-each _ (run .sites) alike k l) x)
 
@@ -118,7 +118,7 @@ module _ (run : Run) (s : State) (so : StateSound run s) (k : ℕ) where
 
   module _ (whole : length (s .ledger .pairs) ≡ 256) (xs ys : List Repair) (proper : areProper run xs ≡ true) (proper′ : areProper run ys ≡ true) (of : allAt k xs ≡ true) (of′ : allAt k ys ≡ true) where
     pub any-order-at-a-site : fitTogether (run .capacity) (ownTable run s k ++ named run s xs) ≡ true → samePairs (entriesOfAll (named run s xs)) (entriesOfAll (named run s ys)) ≡ true
-        → (allAccepted run s (operations xs) ≡ true) × (allAccepted run s (operations ys) ≡ true) × (ran run s (operations xs) ≡ ran run s (operations ys))
+        → OneEnd run s xs ys
     any-order-at-a-site fit alike = same-end run s so whole xs ys proper proper′ (site-fits xs proper of fit) (λ j l x. go j x (eqb k j) refl)
       where
         go : (j x : ℕ) (b : Bool) → eqb k j ≡ b → largest (entriesOfAll (cameTo run s xs j)) x ≡ largest (entriesOfAll (cameTo run s ys j)) x
