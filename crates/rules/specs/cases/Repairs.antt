@@ -19,7 +19,7 @@ use Rattle.rules.specs.meaning.Leb.{lebValue, of64, readLeb}
 use Rattle.rules.specs.meaning.Groups.{entriesFrom, groupOf, entriesIn, formsNone}
 use Rattle.rules.specs.meaning.Events.{absorbRefusal, outcome, refusalFor, afterEvent}
 use Rattle.rules.specs.meaning.Histories.{ran, occurs, within, samePairs, among, distinct}
-use Rattle.rules.specs.meaning.Repairs.{TableOf, areSound, entriesOfAll, idsOfAll, fitTogether, takenIn, allTaken, Repair, merging, absorbing, isProper, areProper, allAt, operations, hasAfter, allBrought, atEach, named, fitEverywhere, sameEverywhere}
+use Rattle.rules.specs.meaning.Repairs.{TableOf, emptyTable, areSound, entriesOfAll, idsOfAll, fitTogether, takenIn, allTaken, Repair, merging, absorbing, isProper, areProper, allAt, operations, hasAfter, allBrought, atEach, named, fitEverywhere, sameEverywhere}
 use Rattle.rules.specs.cases.Sample.{refusals}
 use Rattle.rules.specs.laws.repair.Tables.{any-order}
 use Rattle.rules.specs.laws.repair.Orders.{any-order-everywhere, any-order-at-a-site}
@@ -55,8 +55,9 @@ pub record TakenMet : Type 0 where
   pub same-set : samePairs (entriesOfAll order) (entriesOfAll other-order) ≡ true
   -- the four ids fit four places, and not three
   pub fits : (fitTogether 4 (a ∷ order) ≡ true) × (fitTogether 3 (a ∷ order) ≡ false)
-  -- an equal one changes nothing, and no length rises; either way; three grouped in either way; any order, or twice
+  -- an equal one changes nothing, and no length rises; nor does the empty one, from either side; either way; three grouped in either way; any order, or twice
   pub equal : (mergeAnswer a a ≡ answer accepted 0) × (mergeTable a a ≡ a)
+  pub empty : (mergeAnswer a (emptyTable 4) ≡ answer accepted 0) × (mergeTable a (emptyTable 4) ≡ a) × (mergeTable (emptyTable 4) a ≡ a)
   pub either : (mergeTable a d ≡ 7 ∷ 3 ∷ 8 ∷ 2 ∷ 10 ∷ 4 ∷ 0 ∷ 0 ∷ []) × (mergeTable d a ≡ 7 ∷ 3 ∷ 8 ∷ 2 ∷ 10 ∷ 4 ∷ 0 ∷ 0 ∷ [])
   pub grouped : (mergeTable (mergeTable a b) d ≡ 7 ∷ 3 ∷ 8 ∷ 2 ∷ 9 ∷ 1 ∷ 10 ∷ 4 ∷ []) × (mergeTable a (mergeTable b d) ≡ 7 ∷ 3 ∷ 8 ∷ 2 ∷ 9 ∷ 1 ∷ 10 ∷ 4 ∷ [])
   pub taken : (allTaken a order ≡ true) × (takenIn a order ≡ full)
@@ -70,6 +71,7 @@ taken-met = record {
   same-set = refl;
   fits = (refl, refl);
   equal = (refl, refl);
+  empty = (refl, refl, refl);
   either = (refl, refl);
   grouped = (refl, refl);
   taken = (refl, refl);

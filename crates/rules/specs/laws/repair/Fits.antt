@@ -45,7 +45,7 @@ length-among (t ∷ named) sounds x some = go (lengthOf t x) refl (length-among 
     go zero q ih = among-right (idsOf t) (idsOfAll named) x (ih (omega (arith, first)))
     go (suc n) q ih = among-left (idsOf t) (idsOfAll named) x (held-among M t (parts (sound M t) _ sounds .0) x (omega arith))
 
-pub among-length : (named : List (List ℕ)) → areSound named ≡ true → (x : ℕ) → among x (idsOfAll named) ≡ true → 1 ≤ largest (entriesOfAll named) x
+among-length : (named : List (List ℕ)) → areSound named ≡ true → (x : ℕ) → among x (idsOfAll named) ≡ true → 1 ≤ largest (entriesOfAll named) x
 unfolding areSound entriesOfAll idsOfAll among
 among-length [] sounds x here = absurd (false≢true here)
 among-length (t ∷ named) sounds x here = go (among x (idsOf t)) refl (among-length named (parts (sound M t) _ sounds .1) x)

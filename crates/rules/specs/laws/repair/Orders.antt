@@ -86,7 +86,7 @@ module _ (run : Run) (s : State) (so : StateSound run s) where
 
   -- two lists of them: where the one fits, and the same largest lengths come to each site by the other, both are accepted, and leave one state
   module _ (whole : length (s .ledger .pairs) ≡ 256) (xs ys : List Repair) (proper : areProper run xs ≡ true) (proper′ : areProper run ys ≡ true) (fit : fitEverywhere run s xs ≡ true) where
-    pub same-end : ((k : ℕ) → k < run .sites → (x : ℕ) → largest (entriesOfAll (cameTo run s xs k)) x ≡ largest (entriesOfAll (cameTo run s ys k)) x)
+    same-end : ((k : ℕ) → k < run .sites → (x : ℕ) → largest (entriesOfAll (cameTo run s xs k)) x ≡ largest (entriesOfAll (cameTo run s ys k)) x)
         → OneEnd run s xs ys
     same-end agree =
         let accepts = accepted-where-it-fits xs proper ∙ fit in

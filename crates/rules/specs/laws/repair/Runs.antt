@@ -126,7 +126,7 @@ accepted-holds run (r ∷ repairs) s has so holds proper accepts =
     accepted-holds run repairs (afterEvent run s (operation r)) (having has r) (event-sound run s (operation r) so) (repair-holds run s so has holds r (p .0) (eqb-true _ _ (a .0))) (p .1) (a .1)
 
 -- each site of the run has no id but of some
-abbrev pub InsideAll : Run → (ℕ → List ℕ) → (ℕ → List (List ℕ)) → Type 0
+abbrev InsideAll : Run → (ℕ → List ℕ) → (ℕ → List (List ℕ)) → Type 0
 InsideAll run ids has = (k : ℕ) → k < run .sites → (x : ℕ) → 1 ≤ largest (entriesOfAll (has k)) x → among x (ids k) ≡ true
 
 -- where there is room for those that it has at the end, they are accepted

@@ -31,7 +31,7 @@ use Rattle.rules.specs.laws.history.Rising.{risen, risen-count, risen-am
 use Rattle.rules.specs.laws.repair.Fits.{largest-first, length-among, fit-few, held-fit, Inside, covered-inside, joined}
 
 -- two tables of one capacity with the same lengths are one
-pub one-table : (c : ℕ) (t u : List ℕ) → TableOf c t → TableOf c u → ((x : ℕ) → lengthOf t x ≡ lengthOf u x) → t ≡ u
+one-table : (c : ℕ) (t u : List ℕ) → TableOf c t → TableOf c u → ((x : ℕ) → lengthOf t x ≡ lengthOf u x) → t ≡ u
 one-table c t u a b agree = law M (a .1) (b .1) (a .0 ∙ sym (b .0)) agree
 
 -- ---- a merge that brings nothing new: no length rises, and the table stays
@@ -43,7 +43,7 @@ module _ (t s : List ℕ) (ok : SoundTable t) (other : SoundTable s) (covered : 
       go [] q = refl
       go (x ∷ ids) q = absurd (false≢true (sym (le-ltb _ _ (covered x)) ∙ sym (risen-among M t s other x) ∙ (rw q (among-same x ids))))
 
-  pub nothing-new : (mergeAnswer t s ≡ answer accepted 0) × (mergeTable t s ≡ t)
+  nothing-new : (mergeAnswer t s ≡ answer accepted 0) × (mergeTable t s ≡ t)
   nothing-new =
       let none : rises t s ≡ 0 = sym (risen-count t s) ∙ ap length none-risen in
       let taken = merge-accepted t s (still-room M t s ok other none) in
