@@ -1,4 +1,4 @@
--- What the sites have after some repairs: nothing goes away, and repairs of one site bring it all that they proper and leave the others as they are.
+-- What the sites have after some repairs: nothing goes away, and repairs of one site bring it all that they name and leave the others as they are.
 -- Assumes nothing.
 use Prim.Native.Nat.{ℕ, _≤_, _<_}
 use native.Mathlib.Nat.{le-refl, le-trans}
@@ -77,7 +77,7 @@ module _ (run : Run) (k : ℕ) where
       let n = parts (isProper run r) _ proper in
       rw (one-brings r has now (eqb-true _ _ (a .0)) (n .0) agree, all-bring repairs has now (a .1) (n .1) agree)
 
-  -- and the site has what it had, and all that they proper
+  -- and the site has what it had, and all that they name
   pub site-has : (repairs : List Repair) (has : ℕ → List (List ℕ)) → allAt k repairs ≡ true → areProper run repairs ≡ true → hasAfter has repairs k ≡ has k ++ allBrought has repairs
   unfolding allAt areProper allBrought hasAfter
   site-has [] has of proper = sym (append-nil (has k))
