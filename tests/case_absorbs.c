@@ -104,8 +104,6 @@ static shape shape_around(rng *r, size_t all) {
     return s;
 }
 
-static uint64_t *table_of(const shape *s, uint64_t site) { return LIB(words, uint64_t) + site * 2 * s->capacity; }
-
 /* The other tables have ids of the same list, so that one that is taken for another is seen. */
 static void place_table(rng *r, const shape *s, uint64_t site) {
     place_state(r, s);

@@ -119,8 +119,6 @@ static shape shape_for(rng *r, size_t all) {
     return s;
 }
 
-static uint64_t *table_of(const shape *s, uint64_t site) { return LIB(words, uint64_t) + site * 2 * s->capacity; }
-
 /* The other tables are of the same ids, so that one that is taken for another is seen. */
 static void place_two(rng *r, const shape *s, numbers n) {
     place_state(r, s);

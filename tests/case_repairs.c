@@ -64,8 +64,6 @@ static size_t marks(void) {
     return n;
 }
 
-static uint64_t *table_of(const shape *s, uint64_t site) { return LIB(words, uint64_t) + site * 2 * s->capacity; }
-
 static void mark_table(const shape *s, uint64_t site) { mark(table_of(s, site), in_use(table_of(s, site), s->capacity)); }
 
 static void mark_plan(const shape *s, const plan *p) {

@@ -22,6 +22,8 @@ void share_state(void) {
     area_share(&ledger);
 }
 
+uint64_t *table_of(const shape *s, uint64_t site) { return LIB(words, uint64_t) + site * 2 * s->capacity; }
+
 static area *const state_areas[] = {&words, &slots, &ledger, &value, &lag, 0};
 
 static uint32_t do_fresh(rng *r, const shape *s) {

@@ -54,6 +54,9 @@ void place_sound(rng *r, const shape *s);
 /* Gives it to the model too. */
 void share_state(void);
 
+/* The library's words of a site's table. */
+uint64_t *table_of(const shape *s, uint64_t site);
+
 /* A state with sizes outside the limits, for both. */
 shape place_bad_sizes(rng *r);
 
