@@ -1,4 +1,6 @@
 // Reads lines, valid and damaged, and says of each the refusal, or the four numbers and the line written back from them.
+#![tactic(auto)]
+
 use libc::{STDIN_FILENO, STDOUT_FILENO};
 use rules::Line;
 

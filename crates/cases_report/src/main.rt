@@ -1,5 +1,7 @@
 // Whole reports, printed, and long ones by their length, a checksum and their two ends. What they must be was computed apart from this program, by
 // tests/report_model.py.
+#![tactic(auto)]
+
 mod long;
 mod show;
 mod texts;

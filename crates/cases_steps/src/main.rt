@@ -1,4 +1,6 @@
 // Small runs, kept by value, take steps and say what became of each: the sample run, every refusal and their order, damaged states, counters at M, serials on links.
+#![tactic(auto)]
+
 mod counters;
 mod damages;
 mod made;

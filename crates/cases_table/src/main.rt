@@ -1,4 +1,6 @@
 // A table with room for three ids takes adds, removes, updates and merges, and says what became of each.
+#![tactic(auto)]
+
 use libc::STDOUT_FILENO;
 use rules::Answer;
 

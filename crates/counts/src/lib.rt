@@ -1,4 +1,6 @@
 // The four counts of a ledger, by value. What each function means is said in `specs/` of the crate `rules`.
+#![tactic(auto)]
+
 ghost use Rattle.std.specs.Prelude.{◌≡◌, cond};
 ghost use Rattle.rules.specs.meaning.Lengths.{M};
 ghost use Rattle.rules.specs.meaning.Ledgers.{no_counts, counts_sound, one_more, raised_if, raised_counts};

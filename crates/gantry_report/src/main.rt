@@ -1,4 +1,6 @@
 // The report program: standard input to its end, or to one byte past the limit, and what is printed of it to standard output.
+#![tactic(auto)]
+
 ghost use Rattle.std.specs.Prelude.{◌≡◌, replicate};
 
 use libc::{STDIN_FILENO, STDOUT_FILENO};

@@ -11,7 +11,7 @@ use lib.Seq.{drop-cons, get_or-take, length-take-le}
 use Rattle.rules.specs.meaning.Refusals.{first_given}
 use Rattle.rules.specs.meaning.Put.{put}
 use Rattle.rules.specs.meaning.Groups.{is_group, group_bytes, group, no_group, group_of, entries_in, forms_none, write_refusal, read_refusal, bytes_written, entries_read, Written, Entered}
-use Rattle.rules.specs.laws.Put.{put_nil, put_cons}
+use Rattle.rules.proofs.laws.Put.{put_nil, put_cons}
 
 -- ---- the writer
 module _ (es out : List ℕ) where

@@ -11,9 +11,9 @@ use lib.ListN.{length, take, drop, set, length-set}
 use lib.Seq.{take-set-le, drop-set-lt}
 use Rattle.rules.specs.meaning.Leb.{leb128}
 use Rattle.rules.specs.meaning.Put.{put}
-use Rattle.rules.specs.laws.Put.{put_put, put_cons}
-use Rattle.rules.specs.laws.table.Order.{Side, Side.below, Side.same, Side.above, side}
-use Rattle.rules.specs.laws.group.Leb.{leb_small, leb_large}
+use Rattle.rules.proofs.laws.Put.{put_put, put_cons}
+use Rattle.rules.proofs.laws.table.Order.{Side, Side.below, Side.same, Side.above, side}
+use Rattle.rules.proofs.laws.group.Leb.{leb_small, leb_large}
 use Rattle.groups.specs.Writing.{Led}
 
 -- a byte that is written over

@@ -11,8 +11,8 @@ use lib.Seq.{drop-cons}
 use Rattle.rules.specs.meaning.Text.{Front, front, refused}
 use Rattle.rules.specs.meaning.Leb.{leb_value, of64, read_leb}
 use Rattle.rules.specs.meaning.Groups.{Group, group, no_group, most_entries, onward, group_if, entries_from, group_of}
-use Rattle.rules.specs.laws.group.Leb.{leb_small, read_leb_law}
-use Rattle.rules.specs.laws.line.Numbers.{below}
+use Rattle.rules.proofs.laws.group.Leb.{leb_small, read_leb_law}
+use Rattle.rules.proofs.laws.line.Numbers.{below}
 use Rattle.groups.specs.Decoding.{Lays}
 
 module _ (bs : List ℕ) where

@@ -10,8 +10,8 @@ use lib.ListN.{length, get_or, drop, drop_of_length-le}
 use lib.Seq.{drop-cons}
 use Rattle.rules.specs.meaning.Lengths.{M}
 use Rattle.rules.specs.meaning.Groups.{most_entries, rising_from, is_group}
-use Rattle.rules.specs.laws.line.Numbers.{by_test}
-use Rattle.rules.specs.laws.group.Groups.{group_full}
+use Rattle.rules.proofs.laws.line.Numbers.{by_test}
+use Rattle.rules.proofs.laws.group.Groups.{group_full}
 
 -- ---- tests
 and_true : (b : Bool) → b && true ≡ b

@@ -10,10 +10,10 @@ use lib.Seq.{get_or-drop, drop-drop}
 use Rattle.rules.specs.meaning.Leb.{leb128}
 use Rattle.rules.specs.meaning.Groups.{most_entries, rising_from, is_group, fields_from, group_bytes}
 use Rattle.rules.specs.meaning.Put.{put}
-use Rattle.rules.specs.laws.Put.{put_nil, put_put}
-use Rattle.rules.specs.laws.table.View.{parts}
-use Rattle.rules.specs.laws.group.Groups.{Rising, done, entry, see_rising}
-use Rattle.rules.specs.laws.group.Leb.{leb_some}
+use Rattle.rules.proofs.laws.Put.{put_nil, put_put}
+use Rattle.rules.proofs.laws.table.View.{parts}
+use Rattle.rules.proofs.laws.group.Groups.{Rising, done, entry, see_rising}
+use Rattle.rules.proofs.laws.group.Leb.{leb_some}
 use Rattle.groups.specs.Writing.{IsGroup, Led}
 
 -- ---- an entry at a place

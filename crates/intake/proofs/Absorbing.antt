@@ -18,8 +18,8 @@ use Rattle.rules.specs.meaning.Refusals.{first_given}
 use Rattle.rules.specs.meaning.States.{table_at, with_table}
 use Rattle.rules.specs.meaning.Groups.{entries_in, forms_none, read_refusal, entries_read, Entered}
 use Rattle.rules.specs.meaning.Events.{absorb_tests, absorb_refusal}
-use Rattle.rules.specs.laws.Put.{put_length, put_front}
-use Rattle.rules.specs.laws.group.Groups.{entries_even, entries_few}
+use Rattle.rules.proofs.laws.Put.{put_length, put_front}
+use Rattle.rules.proofs.laws.group.Groups.{entries_even, entries_few}
 use Rattle.judge.specs.Judged.{judgement}
 use Rattle.judge.proofs.Judging.{judged_first, judged_ready}
 use Rattle.steps.specs.Verdicts.{Ready}

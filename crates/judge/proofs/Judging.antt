@@ -14,12 +14,12 @@ use Rattle.rules.specs.declared.Run.{Run}
 use Rattle.rules.specs.declared.Sight.{Sight}
 use Rattle.rules.specs.meaning.Lengths.{M}
 use Rattle.rules.specs.meaning.Table.{sound}
-use Rattle.rules.specs.laws.table.View.{parts}
+use Rattle.rules.proofs.laws.table.View.{parts}
 use Rattle.rules.specs.meaning.Refusals.{Test, ◌when◌, first_given}
 use Rattle.rules.specs.meaning.Runs.{judge_tests}
 use Rattle.rules.specs.meaning.States.{width, sizes_right, tables_sound, all_sound}
-use Rattle.rules.specs.laws.run.Sites.{next_part}
-use Rattle.rules.specs.laws.run.Steps.{pass}
+use Rattle.rules.proofs.laws.run.Sites.{next_part}
+use Rattle.rules.proofs.laws.run.Steps.{pass}
 use Rattle.judge.specs.Judged.{judgement, Sized}
 
 -- the words of a run are few

@@ -1,5 +1,7 @@
 // What 1 and 2 judge, before a call does anything else: the sizes, then all three lent things. The words are read where they are lent; of the slots and
 // the ledger comes, by value, what others saw there.
+#![tactic(auto)]
+
 ghost use Rattle.std.specs.Prelude.{◌≡◌, ◌*◌, length};
 ghost use Rattle.rules.specs.meaning.Lengths.{M};
 ghost use Rattle.rules.specs.meaning.Parcels.{no_parcel};

@@ -1,4 +1,6 @@
 // A small run kept by value: 48 words, 8 slots and a ledger, for programs that make the state themselves. Whoever calls these needs no proof by hand.
+#![tactic(auto)]
+
 ghost use Rattle.std.specs.Prelude.{◌≡◌, replicate};
 ghost use Rattle.rules.specs.meaning.Ledgers.{begun_ledger};
 ghost use Rattle.rules.specs.meaning.Parcels.{no_parcel};

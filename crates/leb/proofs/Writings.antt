@@ -9,8 +9,8 @@ use lib.Pow.{pow-add, pow_mono}
 use lib.ListN.{length, set}
 use Rattle.rules.specs.meaning.Leb.{leb128}
 use Rattle.rules.specs.meaning.Put.{put}
-use Rattle.rules.specs.laws.Put.{put_nil, put_cons}
-use Rattle.rules.specs.laws.group.Leb.{leb_small, leb_large, leb_within, leb_beyond}
+use Rattle.rules.proofs.laws.Put.{put_nil, put_cons}
+use Rattle.rules.proofs.laws.group.Leb.{leb_small, leb_large, leb_within, leb_beyond}
 
 pub one_byte : (n : ℕ) → n < 128 → length (leb128 n) ≡ 1
 one_byte n h = ap length (leb_small n h)

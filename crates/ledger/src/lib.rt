@@ -1,6 +1,8 @@
 // The ledger: the counts, and an entry for each link of a run. What each means is said in `specs/` of the crate `rules`.
 // Here the ledger is lent: it is looked into, stored to and passed on, and no function copies the entries. What is decided is decided by value,
 // in the crates `counts` and `links`, where no proof by hand is needed.
+#![tactic(auto)]
+
 ghost use Rattle.std.specs.Prelude.{◌≡◌, get_or};
 ghost use Rattle.rules.specs.meaning.Lengths.{M};
 ghost use Rattle.rules.specs.meaning.Links.{no_pair, links_sound};

@@ -1,4 +1,6 @@
 // The rules on one length, by value: the paper's Figure 4 for one id. What each means is said in `specs/meaning/Lengths.antt` of the crate `rules`.
+#![tactic(auto)]
+
 ghost use Rattle.std.specs.Prelude.{◌≡◌};
 ghost use Rattle.rules.specs.meaning.Lengths.{M, listed, after_add, join};
 ghost use Rattle.rules.specs.meaning.Operations.{removed_length};

@@ -11,9 +11,9 @@ use Rattle.rules.specs.declared.Line.TheVariants.{Numbers, NoLine}
 use Rattle.rules.specs.meaning.Lines.{numbers_of}
 use Rattle.rules.specs.meaning.Refusals.{first_given}
 use Rattle.rules.specs.meaning.Put.{put}
-use Rattle.rules.specs.laws.Put.{put_nil, put_cons}
+use Rattle.rules.proofs.laws.Put.{put_nil, put_cons}
 use Rattle.rules.specs.meaning.Area.{little, word, laid, is_no_line, read_refusal, area_after}
-use Rattle.rules.specs.laws.line.Area.{little_length}
+use Rattle.rules.proofs.laws.line.Area.{little_length}
 use Rattle.lines.proofs.Writings.{put_four}
 
 -- ---- a number in bytes: what is left of it, put at the place, gives the buffer that is promised

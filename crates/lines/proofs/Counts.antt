@@ -4,7 +4,7 @@ use Prim.Native.Nat.{ℕ, ◌+◌, ◌/◌, ◌^◌, ◌≤◌, ◌<◌}
 use native.Mathlib.Omega.{arith}
 use lib.ListN.{length}
 use Rattle.rules.specs.meaning.Number.{digits}
-use Rattle.rules.specs.laws.line.Numbers.{one_digit, more_digits}
+use Rattle.rules.proofs.laws.line.Numbers.{one_digit, more_digits}
 
 pub two_digits : (n : ℕ) → 10 ≤ n → n < 100 → length (digits n) ≡ 2
 two_digits n l h = omega (arith, more_digits n l (omega arith), one_digit (n / 10) (omega arith))

@@ -9,9 +9,9 @@ use Rattle.rules.specs.declared.Piece.TheVariants.{Read, Refused}
 use Rattle.rules.specs.meaning.Text.{front, behind}
 use Rattle.rules.specs.meaning.Number.{digits}
 use Rattle.rules.specs.meaning.Lines.{field, read_field}
-use Rattle.rules.specs.laws.line.Places.{number_at, text_at, field_at, to_place, from_none, text_says}
+use Rattle.rules.proofs.laws.line.Places.{number_at, text_at, field_at, to_place, from_none, text_says}
 use Rattle.rules.specs.meaning.Put.{put}
-use Rattle.rules.specs.laws.Put.{put_nil, put_put}
+use Rattle.rules.proofs.laws.Put.{put_nil, put_put}
 
 pub field_off : (used : Bool) (name line : List ℕ) (place : ℕ) → used ≡ false → place ≤ length line → Read 0 place ≡ field_at used name line place
 unfolding field_at read_field

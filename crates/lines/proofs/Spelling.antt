@@ -7,7 +7,7 @@ use native.Mathlib.Numerals.{add-one}
 use lib.ListN.{length, get_or, take, drop, set, length-set, take-append-drop}
 use lib.Seq.{drop-cons, get_or-set_same, drop-set-lt, take-set-le, take-take, take-length, paste, paste-suc}
 use Rattle.rules.specs.meaning.Number.{digits}
-use Rattle.rules.specs.laws.line.Numbers.{digits_small, digits_large}
+use Rattle.rules.proofs.laws.line.Numbers.{digits_small, digits_large}
 use Rattle.rules.specs.meaning.Put.{put}
 
 -- from the place of a stored byte on

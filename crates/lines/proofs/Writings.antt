@@ -7,14 +7,14 @@ use native.Mathlib.Omega.{arith}
 use borrow.Author.Tests.{lt-ltb, le-ltb}
 use lib.ListN.{length, length-append}
 use Rattle.rules.specs.meaning.Number.{digits}
-use Rattle.rules.specs.laws.line.Numbers.{below, by_test}
+use Rattle.rules.proofs.laws.line.Numbers.{below, by_test}
 use Rattle.rules.specs.meaning.Lines.{lead, to_name, id_name, has_second, has_id, field, text_of, names_step}
-use Rattle.rules.specs.laws.line.Lines.{step_says}
+use Rattle.rules.proofs.laws.line.Lines.{step_says}
 use Rattle.rules.specs.meaning.Refusals.{first_given}
 use Rattle.rules.specs.meaning.Put.{put}
-use Rattle.rules.specs.laws.Put.{put_nil, put_put}
+use Rattle.rules.proofs.laws.Put.{put_nil, put_put}
 use Rattle.rules.specs.meaning.Writing.{check_of, Filled}
-use Rattle.rules.specs.laws.line.Writing.{text_whole, text_refused}
+use Rattle.rules.proofs.laws.line.Writing.{text_whole, text_refused}
 
 pub line_length : (kind first second i : ℕ) → length (text_of kind first second i) ≡ length (lead kind) + length (digits first) + length (field (has_second kind) to_name second) + length (field (has_id kind) id_name i)
 unfolding text_of

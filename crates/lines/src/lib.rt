@@ -1,5 +1,7 @@
 // Step lines, read from and written to byte slices. What a line is, and what each function means, is said in `specs/` of the crate `rules`.
 // Reading is one pass: no byte of a line is looked at more than twice.
+#![tactic(auto)]
+
 mod area;
 mod field;
 mod kind;

@@ -1,5 +1,7 @@
 // The links of a run, by value: where the entry of one is, in which order a loop goes over them, what a send and a delivery make of an entry,
 // and the serials of 32 bits in it. What each means is said in `specs/` of the crate `rules`.
+#![tactic(auto)]
+
 mod lags;
 mod pairs;
 mod places;

@@ -13,11 +13,11 @@ use lib.Seq.{get_or-drop, drop-drop, take_all}
 use lib.Bits.{bit_and, bit_or, and_mask, or_zero_r, or_shifted_r}
 use lib.Pow.{shl_exact}
 use mir.Val.{bool_byte}
-use Rattle.rules.specs.laws.table.Order.{lt_or_le}
+use Rattle.rules.proofs.laws.table.Order.{lt_or_le}
 use Rattle.rules.specs.meaning.Members.{bits_of, bytes_of, bytes_for, answers_of}
-use Rattle.rules.specs.laws.Members.{bit, bits_lt, bits_more}
+use Rattle.rules.proofs.laws.Members.{bit, bits_lt, bits_more}
 use Rattle.rules.specs.meaning.Put.{put}
-use Rattle.rules.specs.laws.Put.{put_cons, put_nil}
+use Rattle.rules.proofs.laws.Put.{put_cons, put_nil}
 
 -- a bit above all that a byte holds
 shifted : (byte k : ℕ) (l : Bool) → k < 8 → byte < 2 ^ k → bit_or byte (bool_byte l * 2 ^ k % 2 ^ 8) ≡ byte + 2 ^ k * cond l 1 0

@@ -8,9 +8,9 @@ use mathlib.Core.Path.{◌≡◌, refl, sym, ap, ◌∙◌}
 use mathlib.Core.Logic.{◌⊎◌, ⊎_elim, inl, inr}
 use mathlib.Core.List.{List}
 use lib.ListN.{length, get_or}
-use Rattle.rules.specs.laws.table.Order.{lt_or_le}
+use Rattle.rules.proofs.laws.table.Order.{lt_or_le}
 use Rattle.rules.specs.meaning.Table.{id_at, length_at, length_of, rank}
-use Rattle.rules.specs.laws.table.Places.{Laid, length_of_at, placed, rank_is, rank_most, rank_under, rank_over, under_rank}
+use Rattle.rules.proofs.laws.table.Places.{Laid, length_of_at, placed, rank_is, rank_most, rank_under, rank_over, under_rank}
 use Rattle.table.proofs.Pairs.{agree_below}
 use Rattle.merging.specs.Walks.{Back}
 

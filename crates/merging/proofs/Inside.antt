@@ -8,7 +8,7 @@ use mathlib.Core.List.{List, ◌++◌}
 use lib.ListN.{length, get_or, take, drop, set, length-set, length-drop, length-append, take-append-drop, get_or-append}
 use lib.Seq.{get_or-take, get_or-drop, get_or-set_same, get_or-set_other, get_or-append-add, length-take-le, ext_get_or}
 use Rattle.rules.specs.meaning.Table.{SoundTable, capacity, held, id_at, length_at, merged, held_merged}
-use Rattle.rules.specs.laws.table.Order.{lt_or_le}
+use Rattle.rules.proofs.laws.table.Order.{lt_or_le}
 use Rattle.merging.specs.Walks.{Joining, Apart, Filling, part_at, same_ids}
 use Rattle.merging.proofs.Backwards.{Put}
 use Rattle.merging.proofs.Joins.{Outcome, same_words, settled as settled-so, filled, joining_start}

@@ -9,9 +9,9 @@ use lib.ListN.{length, get_or, set}
 use lib.Seq.{ext_get_or}
 use Rattle.rules.specs.meaning.Lengths.{M}
 use Rattle.rules.specs.meaning.Table.{SoundTable, id_at, length_at, held, merged, held_merged}
-use Rattle.rules.specs.laws.table.Order.{Side, Side.below, Side.same, Side.above, side}
-use Rattle.rules.specs.laws.table.Places.{Laid, laid_of}
-use Rattle.rules.specs.laws.table.Merge.{Merged, merged_of}
+use Rattle.rules.proofs.laws.table.Order.{Side, Side.below, Side.same, Side.above, side}
+use Rattle.rules.proofs.laws.table.Places.{Laid, laid_of}
+use Rattle.rules.proofs.laws.table.Merge.{Merged, merged_of}
 use Rattle.table.proofs.Pairs.{entry_other, entry_id, entry_length_at}
 use Rattle.merging.specs.Walks.{Back, Joining}
 use Rattle.merging.proofs.Backwards.{Put, begin, turn_source, turn_own, turn_both, back_end}

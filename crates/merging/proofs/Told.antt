@@ -10,9 +10,9 @@ use Rattle.rules.specs.declared.Answer.{Answer}
 use Rattle.rules.specs.meaning.Lengths.{M}
 use Rattle.rules.specs.meaning.Table.{SoundTable, capacity, merged, held_merged, rises}
 use Rattle.rules.specs.meaning.Operations.{answer, accepted, out_of_room, merge_refusal, merge_answer, merge_table}
-use Rattle.rules.specs.laws.table.Order.{lt_or_le}
-use Rattle.rules.specs.laws.table.Merge.{still}
-use Rattle.rules.specs.laws.table.Operations.{merge_refused, merge_accepted}
+use Rattle.rules.proofs.laws.table.Order.{lt_or_le}
+use Rattle.rules.proofs.laws.table.Merge.{still}
+use Rattle.rules.proofs.laws.table.Operations.{merge_refused, merge_accepted}
 
 module _ (t s : List ℕ) (a : Answer) (places held risen : ℕ) (p : places ≡ capacity t) (h : held ≡ held_merged t s) (r : risen ≡ rises t s)
     (said : a ≡ answer (cond (ltb places held) out_of_room accepted) risen) where

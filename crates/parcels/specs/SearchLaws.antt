@@ -7,7 +7,7 @@ use Rattle.std.proofs.Common.{sym, ap, ◌∙◌, arith, zero-add, add-one, drop
 use Rattle.std.proofs.Math.Seq.{drop-length}
 use Rattle.rules.specs.declared.Parcel.{Parcel}
 use Rattle.rules.specs.meaning.Parcels.{no_parcel, is_free, lowest_free}
-use Rattle.rules.specs.laws.run.Slots.{lowest_within}
+use Rattle.rules.proofs.laws.run.Slots.{lowest_within}
 
 abbrev pub found : List Parcel → ℕ → ℕ → ℕ
 found ys i end = cond (ltb i end) (i + lowest_free (drop i ys)) end

@@ -1,5 +1,7 @@
 // The parcel list: a lent slice of slots, read, stored to, counted and cleared. What each function means is said in `specs/meaning/Parcels.antt` of the
 // crate `rules`. Every function here takes any slots at all: whether they are sound is one of the things that a scan tells.
+#![tactic(auto)]
+
 ghost use Rattle.std.specs.Prelude.{◌≡◌, cond, ◌≤◌, ◌<◌, ◌^◌, min, set, get_or};
 ghost use Rattle.rules.specs.meaning.Lengths.{M};
 ghost use Rattle.rules.specs.meaning.Parcels.{no_parcel, is_free, is_occupied, lowest_free, scan_of, cleared};

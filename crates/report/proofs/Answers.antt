@@ -8,9 +8,9 @@ use lib.ListN.{length}
 use borrow.Author.Tests.{lt-ltb, le-ltb}
 use Rattle.rules.specs.meaning.Text.{ascii}
 use Rattle.rules.specs.meaning.Put.{put}
-use Rattle.rules.specs.laws.Put.{put_nil}
+use Rattle.rules.proofs.laws.Put.{put_nil}
 use Rattle.rules.specs.meaning.Reports.{line_end, input_limit, report_room, report_of, Told, printed_of, printed_for, Printed}
-use Rattle.rules.specs.laws.report.Fits.{report_over, report_short, report_taken, told_refused, told_taken}
+use Rattle.rules.proofs.laws.report.Fits.{report_over, report_short, report_taken, told_refused, told_taken}
 use Rattle.report.specs.Laid.{Laid}
 
 module _ (input before : List ℕ) where

@@ -14,8 +14,8 @@ use Rattle.rules.specs.meaning.Lengths.{M}
 use Rattle.rules.specs.meaning.Parcels.{is_free, no_parcel, waiting}
 use Rattle.rules.specs.meaning.Table.{held, shown}
 use Rattle.rules.specs.meaning.States.{State, table_at, StateSound}
-use Rattle.rules.specs.laws.run.Tables.{words_long}
-use Rattle.rules.specs.laws.run.Sites.{tables_at}
+use Rattle.rules.proofs.laws.run.Tables.{words_long}
+use Rattle.rules.proofs.laws.run.Sites.{tables_at}
 use Rattle.rules.specs.meaning.Text.{ascii}
 use Rattle.rules.specs.meaning.Reports.{report_run, count_line, ledger_lines, site_line, site_lines, ending}
 use Rattle.report.specs.Tables.{ThreeTables}

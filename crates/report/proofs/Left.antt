@@ -7,7 +7,7 @@ use mathlib.Core.Path.{◌≡◌, refl, sym, ◌∙◌}
 use mathlib.Core.List.{List, [], ◌∷◌, ◌++◌}
 use lib.ListN.{length, set, length-append}
 use Rattle.rules.specs.meaning.Put.{put}
-use Rattle.rules.specs.laws.Put.{put_nil, put_length, put_put, put_cons}
+use Rattle.rules.proofs.laws.Put.{put_nil, put_length, put_put, put_cons}
 use Rattle.report.specs.Laid.{Laid}
 
 pub record Left (out : List ℕ) (place : ℕ) (text : List ℕ) (end : ℕ) (wanted : List ℕ) : Type 0 where

@@ -17,9 +17,9 @@ use Rattle.rules.specs.meaning.Put.{put}
 use Rattle.rules.specs.meaning.StepLines.{step_of}
 use Rattle.rules.specs.meaning.Calls.{named_after}
 use Rattle.rules.specs.meaning.Reports.{report_run, report_start, line_end, input_limit, end_room, refused_line, end_lines, line_by, said_of, report_from, report_of}
-use Rattle.rules.specs.laws.report.Fits.{report_done, report_starts, report_fits}
-use Rattle.rules.specs.laws.report.Parts.{end_within}
-use Rattle.rules.specs.laws.report.Places.{report_line_at, report_byte_at, report_unended_at, start_sound, state_sound}
+use Rattle.rules.proofs.laws.report.Fits.{report_done, report_starts, report_fits}
+use Rattle.rules.proofs.laws.report.Parts.{end_within}
+use Rattle.rules.proofs.laws.report.Places.{report_line_at, report_byte_at, report_unended_at, start_sound, state_sound}
 use Rattle.report.specs.Said.{Sayable, Said}
 use Rattle.report.specs.declared.ahead.Ahead.{Ahead}
 use Rattle.report.specs.Ahead.{Within, Ends, refused_as, asked_step, ahead, Next}

@@ -6,7 +6,7 @@ use mathlib.Core.Path.{◌≡◌, refl, sym, ◌∙◌}
 use mathlib.Core.List.{List, [], ◌∷◌, ◌++◌}
 use lib.ListN.{length, length-append}
 use Rattle.rules.specs.meaning.Put.{put}
-use Rattle.rules.specs.laws.Put.{put_nil}
+use Rattle.rules.proofs.laws.Put.{put_nil}
 use Rattle.rules.specs.meaning.Reports.{input_limit, report_room}
 use Rattle.report.specs.Laid.{Laid}
 use Rattle.report.specs.Said.{Sayable, Said}

@@ -23,7 +23,7 @@ use Rattle.rules.specs.meaning.Kinds.{numbers, is_query}
 use Rattle.rules.specs.meaning.Text.{ascii}
 use Rattle.rules.specs.meaning.Number.{digits}
 use Rattle.rules.specs.meaning.Reports.{report_run, line_end, refused_line, query_line, count_line, ledger_lines, accepted_line, line_by, said_of}
-use Rattle.rules.specs.laws.report.Parts.{refusal_within, refused_within, query_within}
+use Rattle.rules.proofs.laws.report.Parts.{refusal_within, refused_within, query_within}
 
 -- a name and a number
 abbrev pub pair : List ℕ → ℕ → List ℕ

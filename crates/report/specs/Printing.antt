@@ -2,10 +2,10 @@
 -- Assumes nothing.
 use Rattle.std.specs.Prelude.{ℕ, ◌≤◌, List, ◌≡◌, length, take}
 use Rattle.std.proofs.Common.{arith, sym, ap, length-take-le, lt-ltb, le-ltb}
-use Rattle.rules.specs.laws.line.Numbers.{below}
-use Rattle.rules.specs.laws.Put.{put_length}
+use Rattle.rules.proofs.laws.line.Numbers.{below}
+use Rattle.rules.proofs.laws.Put.{put_length}
 use Rattle.rules.specs.meaning.Reports.{input_limit, report_room, printed_of, printed_for, Printed}
-use Rattle.rules.specs.laws.report.Fits.{report_fits}
+use Rattle.rules.proofs.laws.report.Fits.{report_fits}
 
 -- with room for the largest report
 of_fits : (input : List ℕ) → length (printed_of input) ≤ report_room input_limit

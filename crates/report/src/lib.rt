@@ -1,4 +1,6 @@
 // The text of a report from the text of steps. What a report is, is said in `specs/meaning/Reports.antt` of the crate `rules`.
+#![tactic(auto)]
+
 mod ahead;
 mod ends;
 mod pass;

@@ -17,12 +17,12 @@ use Rattle.rules.specs.meaning.Ids.{distinct, ids_of_all, fit_together}
 use Rattle.rules.specs.meaning.Rounds.{in_turn, all_tables}
 use Rattle.rules.specs.meaning.Histories.{largest}
 use Rattle.rules.specs.meaning.Repairs.{TableOf, are_sound, entries_of_all, all_taken}
-use Rattle.rules.specs.laws.history.Distinct.{distinct_grows}
-use Rattle.rules.specs.laws.history.Held.{ids_distinct, among_held}
-use Rattle.rules.specs.laws.run.Rounds.{all_are_sound}
-use Rattle.rules.specs.laws.repair.Fits.{largest_first, length_among, held_fit}
-use Rattle.rules.specs.laws.repair.Tables.{one_table, taken_of, taken_where_it_fits}
-use Rattle.rules.specs.laws.repair.Rounds.{tables_split}
+use Rattle.rules.proofs.laws.history.Distinct.{distinct_grows}
+use Rattle.rules.proofs.laws.history.Held.{ids_distinct, among_held}
+use Rattle.rules.proofs.laws.run.Rounds.{all_are_sound}
+use Rattle.rules.proofs.laws.repair.Fits.{largest_first, length_among, held_fit}
+use Rattle.rules.proofs.laws.repair.Tables.{one_table, taken_of, taken_where_it_fits}
+use Rattle.rules.proofs.laws.repair.Rounds.{tables_split}
 use Rattle.steps.specs.Verdicts.{Ready}
 use Rattle.steps.proofs.Tables.{site_sound, site_length}
 use Rattle.rounds.specs.Unions.{united, in_use, padded}

@@ -10,7 +10,7 @@ use lib.ListN.{length, take, drop, length-append, length-drop, drop_of_length-le
 use lib.Seq.{take_at, drop_at}
 use Rattle.rules.specs.declared.Run.{Run}
 use Rattle.rules.specs.meaning.States.{width}
-use Rattle.rules.specs.laws.run.Sites.{next_part}
+use Rattle.rules.proofs.laws.run.Sites.{next_part}
 use Rattle.judge.specs.Judged.{Sized}
 use Rattle.rounds.specs.Values.{copies}
 use Rattle.rounds.proofs.Levelling.{copies_long, copies_more}

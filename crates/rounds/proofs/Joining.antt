@@ -12,7 +12,7 @@ use Rattle.rules.specs.declared.Run.{Run}
 use Rattle.rules.specs.meaning.Lengths.{M}
 use Rattle.rules.specs.meaning.Table.{held}
 use Rattle.rules.specs.meaning.States.{width, table_at}
-use Rattle.rules.specs.laws.table.Update.{held_fits}
+use Rattle.rules.proofs.laws.table.Update.{held_fits}
 use Rattle.steps.specs.Verdicts.{Ready}
 use Rattle.steps.proofs.Tables.{site_sound, site_length}
 use Rattle.rounds.specs.Unions.{in_use, room_of, front, Joins}

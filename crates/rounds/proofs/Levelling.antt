@@ -18,13 +18,13 @@ use Rattle.rules.specs.meaning.States.{State, StateSound, lent, width, table_at,
 use Rattle.rules.specs.meaning.Runs.{fresh_refusal, after_fresh}
 use Rattle.rules.specs.meaning.Rounds.{all_tables, round_merges, after_all}
 use Rattle.rules.specs.meaning.Events.{round, outcome, refusal_for, after_event}
-use Rattle.rules.specs.laws.table.Order.{Side, Side.below, Side.same, Side.above, side}
-use Rattle.rules.specs.laws.run.Sites.{words_by}
-use Rattle.rules.specs.laws.run.Tables.{words_long, site_length}
-use Rattle.rules.specs.laws.run.Sound.{fresh_sound}
-use Rattle.rules.specs.laws.run.Events.{accepted_event_moves}
-use Rattle.rules.specs.laws.run.Rounds.{all_sound_law, round_in_sound}
-use Rattle.rules.specs.laws.repair.Rounds.{some_site, fitted, table_after, level_fits, level_stays, taken_accepted}
+use Rattle.rules.proofs.laws.table.Order.{Side, Side.below, Side.same, Side.above, side}
+use Rattle.rules.proofs.laws.run.Sites.{words_by}
+use Rattle.rules.proofs.laws.run.Tables.{words_long, site_length}
+use Rattle.rules.proofs.laws.run.Sound.{fresh_sound}
+use Rattle.rules.proofs.laws.run.Events.{accepted_event_moves}
+use Rattle.rules.proofs.laws.run.Rounds.{all_sound_law, round_in_sound}
+use Rattle.rules.proofs.laws.repair.Rounds.{some_site, fitted, table_after, level_fits, level_stays, taken_accepted}
 use Rattle.steps.specs.Verdicts.{Ready}
 use Rattle.rounds.specs.Values.{copies, gathered, levelled}
 

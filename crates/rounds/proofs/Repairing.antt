@@ -14,9 +14,9 @@ use Rattle.rules.specs.meaning.Refusals.{first_given}
 use Rattle.rules.specs.meaning.States.{sizes_right}
 use Rattle.rules.specs.meaning.Ids.{fit_together}
 use Rattle.rules.specs.meaning.Rounds.{all_tables, round_tests, round_refusal}
-use Rattle.rules.specs.laws.table.View.{parts}
-use Rattle.rules.specs.laws.run.Steps.{pass}
-use Rattle.rules.specs.laws.repair.Rounds.{round_many}
+use Rattle.rules.proofs.laws.table.View.{parts}
+use Rattle.rules.proofs.laws.run.Steps.{pass}
+use Rattle.rules.proofs.laws.repair.Rounds.{round_many}
 use Rattle.judge.specs.Judged.{judgement}
 use Rattle.judge.proofs.Judging.{judged_first, judged_ready}
 use Rattle.steps.specs.Verdicts.{Ready}

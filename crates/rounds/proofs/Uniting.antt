@@ -10,10 +10,10 @@ use lib.ListN.{length, replicate}
 use borrow.Author.Tests.{lt-ltb, le-ltb}
 use Rattle.rules.specs.meaning.Lengths.{M, join}
 use Rattle.rules.specs.meaning.Table.{SoundTable, length_of, held}
-use Rattle.rules.specs.laws.table.Order.{Side, Side.below, Side.same, Side.above, side}
-use Rattle.rules.specs.laws.table.View.{Unused, Unused.none, Unused.pair, Sound, Sound.rest, Sound.used, seen, say}
-use Rattle.rules.specs.laws.table.Law.{of_same, of_other, of_unused, of_below}
-use Rattle.rules.specs.laws.run.Zeros.{all_unused}
+use Rattle.rules.proofs.laws.table.Order.{Side, Side.below, Side.same, Side.above, side}
+use Rattle.rules.proofs.laws.table.View.{Unused, Unused.none, Unused.pair, Sound, Sound.rest, Sound.used, seen, say}
+use Rattle.rules.proofs.laws.table.Law.{of_same, of_other, of_unused, of_below}
+use Rattle.rules.proofs.laws.run.Zeros.{all_unused}
 use Rattle.rounds.specs.Unions.{beside, united, in_use}
 
 -- entries in use alone: ids from lo up, each above the one before, lengths 1 to M

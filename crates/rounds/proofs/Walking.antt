@@ -12,7 +12,7 @@ use lib.Seq.{drop-cons, take_all, take_at, take-suc-set, length-take-le}
 use lib.Dec.{ltb}
 use borrow.Author.Tests.{ltb-true, ltb-false, lt-ltb}
 use Rattle.rules.specs.meaning.Lengths.{join}
-use Rattle.rules.specs.laws.table.View.{parts}
+use Rattle.rules.proofs.laws.table.View.{parts}
 use Rattle.rounds.specs.Unions.{beside, united, Whole, Laid, Ended}
 use Rattle.rounds.proofs.Uniting.{united_first, united_second, united_both}
 

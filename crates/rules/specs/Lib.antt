@@ -1,4 +1,1 @@
-pub mod Promises
 pub mod meaning
-pub mod laws
-pub mod cases

@@ -1,4 +1,5 @@
 // What is right, and what follows from it. No function stands here: every contract of the other crates cites `specs/`.
+#![tactic(auto)]
 
 // The largest length. It is odd, so only a remove can run out of lengths.
 pub const M: u64 = 4294967295;

@@ -25,17 +25,17 @@ use Rattle.rules.specs.meaning.Lengths.{M}
 use Rattle.rules.specs.meaning.Operations.{answer, unless_refused}
 use Rattle.rules.specs.meaning.Links.{no_link, no_pair, link_between}
 use Rattle.rules.specs.meaning.Ledgers.{booked_ledger, started_if, seen_of}
-use Rattle.rules.specs.laws.run.Ledgers.{raised_none}
+use Rattle.rules.proofs.laws.run.Ledgers.{raised_none}
 use Rattle.rules.specs.meaning.Parcels.{no_parcel, lowest_free, scan_of, cleared}
 use Rattle.rules.specs.meaning.States.{State, lent, sight_of, StateSound}
 use Rattle.rules.specs.meaning.Kinds.{slot_of, link_of, numbers, takes_slot}
 use Rattle.rules.specs.meaning.Runs.{refusal_in, refusal_of, value_of, state_by, after, fresh_refusal, empty, after_fresh, Stepped, Freshened}
 use Rattle.steps.specs.declared.verdict.Verdict.{Verdict}
-use Rattle.rules.specs.laws.run.Steps.{sound_judged}
+use Rattle.rules.proofs.laws.run.Steps.{sound_judged}
 use Rattle.judge.specs.Judged.{seen_as, judgement}
 use Rattle.steps.specs.Verdicts.{Ready, step_refusal, step_verdict, step_words, verdict_by, looked_at, verdict_under, words_under, answer_in}
 use Rattle.sites.specs.Values.{fresh_words, slots_to_clear}
-use Rattle.rules.specs.laws.run.Acts.{judged_first}
+use Rattle.rules.proofs.laws.run.Acts.{judged_first}
 use Rattle.rules.specs.meaning.Steps.{effect}
 use Rattle.rules.specs.meaning.Lags.{lag_in, lag_answer}
 use Rattle.rules.specs.meaning.Acts.{judged_of, answer_under, after_under, Acted}

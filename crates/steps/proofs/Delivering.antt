@@ -15,13 +15,13 @@ use Rattle.rules.specs.meaning.Lengths.{M}
 use Rattle.rules.specs.meaning.Table.{raised}
 use Rattle.rules.specs.meaning.Operations.{answer, raise_refusal, raise_answer, raise_table, absorb_answer, absorb_table}
 use Rattle.rules.specs.meaning.Parcels.{no_parcel}
-use Rattle.rules.specs.laws.run.Slots.{occupied_has}
+use Rattle.rules.proofs.laws.run.Slots.{occupied_has}
 use Rattle.rules.specs.meaning.Links.{heard_pair, incomparable}
 use Rattle.rules.specs.meaning.Ledgers.{absorbed_counter}
 use Rattle.rules.specs.meaning.Refusals.{first_given}
 use Rattle.rules.specs.meaning.States.{table_at, with_table}
 use Rattle.rules.specs.meaning.Steps.{frees, nothing_there, no_room, length_delivered, effect}
-use Rattle.rules.specs.laws.run.Steps.{neither}
+use Rattle.rules.proofs.laws.run.Steps.{neither}
 use Rattle.steps.specs.Verdicts.{refused_verdict, verdict, delivered, step_refusal, step_verdict, step_words}
 use Rattle.steps.proofs.Tables.{kept}
 

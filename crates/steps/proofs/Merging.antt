@@ -14,8 +14,8 @@ use Rattle.rules.specs.meaning.Operations.{merge_refusal, merge_answer, merge_ta
 use Rattle.rules.specs.meaning.Refusals.{first_given}
 use Rattle.rules.specs.meaning.States.{width, table_at, with_table}
 use Rattle.rules.specs.meaning.Steps.{effect}
-use Rattle.rules.specs.laws.table.Order.{Side, Side.below, Side.same, Side.above, side}
-use Rattle.rules.specs.laws.run.Sites.{part_fits}
+use Rattle.rules.proofs.laws.table.Order.{Side, Side.below, Side.same, Side.above, side}
+use Rattle.rules.proofs.laws.run.Sites.{part_fits}
 use Rattle.merging.specs.Walks.{Apart, part_at, with_part}
 use Rattle.steps.specs.Verdicts.{Ready, table_verdict, step_refusal, step_verdict, step_words}
 use Rattle.steps.proofs.Tables.{part_end, table_verdict_law, table_words}

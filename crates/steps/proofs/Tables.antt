@@ -18,7 +18,7 @@ use Rattle.rules.specs.meaning.Links.{no_link, no_pair}
 use Rattle.rules.specs.meaning.Ledgers.{no_counter}
 use Rattle.rules.specs.meaning.States.{width, table_at, with_table}
 use Rattle.rules.specs.meaning.Steps.{no_post, effect}
-use Rattle.rules.specs.laws.run.Sites.{part_fits, tables_at, with_own}
+use Rattle.rules.proofs.laws.run.Sites.{part_fits, tables_at, with_own}
 use Rattle.steps.specs.Verdicts.{Ready, verdict, table_verdict, step_refusal, step_verdict, step_words}
 
 module _ (run : Run) (ws : List ℕ) (ready : Ready run ws) (k : ℕ) (inside : k < run.sites) where

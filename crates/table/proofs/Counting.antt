@@ -5,7 +5,7 @@ use native.Mathlib.Omega.{arith}
 use mathlib.Core.Path.{◌≡◌, refl}
 use mathlib.Core.List.{List, [], ◌∷◌}
 use lib.ListN.{length, drop, length-drop}
-use Rattle.rules.specs.laws.Lengths.{odd_listed, even_listed}
+use Rattle.rules.proofs.laws.Lengths.{odd_listed, even_listed}
 use Rattle.rules.specs.meaning.Table.{length_at, shown}
 use Rattle.table.proofs.Pairs.{from_place}
 

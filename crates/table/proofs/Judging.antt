@@ -14,8 +14,8 @@ use lib.Bits.{bit_or, or_zero_l, or_add_and, and_le_r}
 use lib.Dec.{leb, ltb, eqb}
 use borrow.Author.Tests.{lt-ltb, le-leb, eq-eqb, ne_eqb, ltb-true, leb-true, eqb-true, eqb-false, not-true}
 use Rattle.rules.specs.meaning.Table.{id_at, length_at, sound, held}
-use Rattle.rules.specs.laws.table.View.{parts}
-use Rattle.rules.specs.laws.table.Places.{Laid, laid_of, sound_laid, rises_by}
+use Rattle.rules.proofs.laws.table.View.{parts}
+use Rattle.rules.proofs.laws.table.Places.{Laid, laid_of, sound_laid, rises_by}
 use Rattle.table.specs.Loops.{entries_good, zeros}
 
 -- ---- the words after the entries

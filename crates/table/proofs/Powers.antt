@@ -12,7 +12,7 @@ use lib.Count.{count_leading_zeros, leading_top}
 use lib.Pow.{shl_exact}
 use mir.Val.{bool_byte}
 use Rattle.rules.specs.meaning.Table.{id_at, length_at}
-use Rattle.rules.specs.laws.table.Places.{Laid}
+use Rattle.rules.proofs.laws.table.Places.{Laid}
 use Rattle.table.specs.Loops.{Span}
 use Rattle.table.proofs.Search.{span_start, span_up, span_stay}
 

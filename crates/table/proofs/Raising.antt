@@ -14,14 +14,14 @@ use Rattle.rules.specs.declared.Answer.{Answer}
 use Rattle.rules.specs.declared.Found.{Found}
 use Rattle.rules.specs.declared.Found.TheVariants.{At, Absent}
 use Rattle.rules.specs.meaning.Lengths.{M, after_remove}
-use Rattle.rules.specs.laws.Lengths.{remove_none, remove_rises}
+use Rattle.rules.proofs.laws.Lengths.{remove_none, remove_rises}
 use Rattle.rules.specs.meaning.Table.{SoundTable, capacity, length_at, length_of, held, found_of, raised, held_with}
 use Rattle.rules.specs.meaning.Operations.{accepted, out_of_room, crowded, answer, unless_refused, length_refusal, raise_answer, raise_table, removed_length, remove_refusal, remove_answer, remove_table}
-use Rattle.rules.specs.laws.table.Order.{lt_or_le}
-use Rattle.rules.specs.laws.table.Update.{held_with_law, fitting_here}
-use Rattle.rules.specs.laws.table.Places.{Laid, laid_of, at_found, none_found}
-use Rattle.rules.specs.laws.table.Insert.{raised_set}
-use Rattle.rules.specs.laws.table.Operations.{raise_refused, raise_accepted}
+use Rattle.rules.proofs.laws.table.Order.{lt_or_le}
+use Rattle.rules.proofs.laws.table.Update.{held_with_law, fitting_here}
+use Rattle.rules.proofs.laws.table.Places.{Laid, laid_of, at_found, none_found}
+use Rattle.rules.proofs.laws.table.Insert.{raised_set}
+use Rattle.rules.proofs.laws.table.Operations.{raise_refused, raise_accepted}
 
 -- ---- the id stands at place i
 module _ (t : List ℕ) (e i : ℕ) (ok : SoundTable t) (found : found_of t e ≡ At i) where

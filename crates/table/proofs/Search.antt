@@ -13,10 +13,10 @@ use mir.Val.{bool_byte}
 use borrow.Author.Tests.{le-leb, eq-eqb, ne_eqb, leb-true, leb-false, ltb-true, ltb-false, eqb-true, eqb-false, not-true}
 use Rattle.rules.specs.declared.Found.{Found}
 use Rattle.rules.specs.declared.Found.TheVariants.{At, Absent}
-use Rattle.rules.specs.laws.table.Order.{Side, Side.below, Side.same, Side.above, side}
+use Rattle.rules.proofs.laws.table.Order.{Side, Side.below, Side.same, Side.above, side}
 use Rattle.rules.specs.meaning.Table.{id_at, length_at, rank, found_of}
-use Rattle.rules.specs.laws.table.Places.{Laid, rank_is, used_at, found_at, found_none}
-use Rattle.rules.specs.laws.table.View.{parts}
+use Rattle.rules.proofs.laws.table.Places.{Laid, rank_is, used_at, found_at, found_none}
+use Rattle.rules.proofs.laws.table.View.{parts}
 use Rattle.table.specs.Loops.{Span}
 
 -- a test of a length and a test of an id, failed together

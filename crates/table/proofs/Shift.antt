@@ -8,11 +8,11 @@ use mathlib.Core.Logic.{⊎_elim}
 use mathlib.Core.List.{List, [], ◌++◌, append-nil}
 use lib.ListN.{length, get_or, set, take, drop, length-set, length-drop, length-append, get_or-append}
 use lib.Seq.{get_or-set_same, get_or-set_other, ext_get_or, length-take-le, take_all, drop-drop, drop-length, get_or-append-add, get_or-take, get_or-drop}
-use Rattle.rules.specs.laws.table.Update.{raised_length}
-use Rattle.rules.specs.laws.table.Order.{lt_or_le}
+use Rattle.rules.proofs.laws.table.Update.{raised_length}
+use Rattle.rules.proofs.laws.table.Order.{lt_or_le}
 use Rattle.rules.specs.meaning.Table.{id_at, length_at, length_of, rank, raised}
-use Rattle.rules.specs.laws.table.Places.{Laid, length_of_at, rank_most, rank_under, rank_over}
-use Rattle.rules.specs.laws.table.Insert.{raised_laid, raised_below, raised_above, raised_at}
+use Rattle.rules.proofs.laws.table.Places.{Laid, length_of_at, rank_most, rank_under, rank_over}
+use Rattle.rules.proofs.laws.table.Insert.{raised_laid, raised_below, raised_above, raised_at}
 use Rattle.table.specs.Loops.{Moved, entry}
 use Rattle.table.proofs.Pairs.{entry_length, entry_other, entry_id, entry_length_at, place_of, agree_below, agree_from}
 

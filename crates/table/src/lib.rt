@@ -1,5 +1,7 @@
 // One site's table in lent words. What each function means is said in `specs/` of the crate `rules`.
 // All but `sound` and `shown` work on a table that the layer above has judged once: they require that it is sound.
+#![tactic(auto)]
+
 mod find;
 mod judge;
 mod places;

@@ -12,9 +12,9 @@ use lib.Seq.{get_or-drop}
 use lib.Dec.{eqb, ltb}
 use borrow.Author.Tests.{lt-ltb, ne_eqb, eqb-true}
 use Rattle.rules.specs.meaning.Table.{id_at, length_at, length_of, held, new_ids, rises}
-use Rattle.rules.specs.laws.table.Order.{Side, Side.below, Side.same, Side.above, side}
-use Rattle.rules.specs.laws.table.View.{Unused, Unused.none, Unused.pair, parts}
-use Rattle.rules.specs.laws.table.Places.{Laid, unused_by, length_of_at, length_of_none}
+use Rattle.rules.proofs.laws.table.Order.{Side, Side.below, Side.same, Side.above, side}
+use Rattle.rules.proofs.laws.table.View.{Unused, Unused.none, Unused.pair, parts}
+use Rattle.rules.proofs.laws.table.Places.{Laid, unused_by, length_of_at, length_of_none}
 use Rattle.table.proofs.Pairs.{from_place}
 use Rattle.tally.specs.Joined.{Walk}
 

@@ -1,4 +1,6 @@
 // What joining one table into another comes to, before anything is written: the entries that are needed, the lengths that rise, and the answer.
+#![tactic(auto)]
+
 mod answers;
 mod counting;
 mod passes;

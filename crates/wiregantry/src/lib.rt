@@ -1,5 +1,7 @@
 // What C calls. The functions here decide nothing: each hands on what it is lent to the crate that does the work, and gives back a number.
 // They stand in one crate because an archive exports the functions of its own crate only.
+#![tactic(auto)]
+
 ghost use Rattle.std.specs.Prelude.{◌≡◌};
 ghost use Rattle.rules.specs.meaning.Area.{read_refusal, area_after};
 ghost use Rattle.rules.specs.meaning.Bursts.{Handled};

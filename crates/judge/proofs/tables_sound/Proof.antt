@@ -9,7 +9,7 @@ use native.Mathlib.Numerals.{add-one}
 use Rattle.rules.specs.meaning.Lengths.{M}
 use Rattle.rules.specs.meaning.Table.{sound}
 use Rattle.rules.specs.meaning.States.{tables_sound}
-use Rattle.rules.specs.laws.run.Sites.{part_fits}
+use Rattle.rules.proofs.laws.run.Sites.{part_fits}
 use Rattle.judge.proofs.Judging.{tables_more, tables_end}
 use native.Mathlib.Omega.{arith}
 use borrow.Author.Rules.{rules}

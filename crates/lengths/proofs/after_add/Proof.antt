@@ -2,7 +2,7 @@
 -- Assumes nothing.
 use native.Mathlib.Omega.{arith}
 use borrow.Author.Rules.{rules}
-use Rattle.rules.specs.laws.Lengths.{odd_listed, even_listed, add_listed, add_unlisted}
+use Rattle.rules.proofs.laws.Lengths.{odd_listed, even_listed, add_listed, add_unlisted}
 use Rattle.lengths.proofs.after_add.Statement.{statement}
 use Rattle.lengths.proofs.after_add.Tie as tie
 

@@ -6,7 +6,7 @@ use native.Mathlib.Omega.{arith}
 use borrow.Author.Rules.{rules}
 use borrow.Author.Tests.{lt-ltb, le-ltb}
 use Rattle.rules.specs.meaning.Lengths.{M}
-use Rattle.rules.specs.laws.Lengths.{odd_listed, even_listed, remove_listed, remove_unlisted}
+use Rattle.rules.proofs.laws.Lengths.{odd_listed, even_listed, remove_listed, remove_unlisted}
 use Rattle.rules.specs.meaning.Operations.{removed_length}
 use Rattle.lengths.proofs.after_remove.Statement.{statement}
 use Rattle.lengths.proofs.after_remove.Tie as tie

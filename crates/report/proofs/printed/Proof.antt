@@ -3,7 +3,7 @@ use native.Mathlib.Omega.{arith}
 use Prim.Native.Nat.{◌≤◌}
 use lib.ListN.{length}
 use Rattle.rules.specs.meaning.Reports.{report_of}
-use Rattle.rules.specs.laws.report.Fits.{report_fits}
+use Rattle.rules.proofs.laws.report.Fits.{report_fits}
 use Rattle.report.proofs.Left.{laid_by}
 use Rattle.report.proofs.Saying.{laid_fits}
 use Rattle.report.proofs.Answers.{printed_none, printed_over, printed_all}

@@ -5,7 +5,7 @@ use lib.ListN.{length}
 use lib.Dec.{ltb}
 use borrow.Author.Tests.{le-ltb}
 use Rattle.rules.specs.meaning.Reports.{report_of}
-use Rattle.rules.specs.laws.report.Fits.{report_fits}
+use Rattle.rules.proofs.laws.report.Fits.{report_fits}
 use borrow.Author.Rules.{rules}
 use Rattle.report.proofs.too_short.Statement.{statement}
 use Rattle.report.proofs.too_short.Tie as tie

@@ -6,7 +6,7 @@ use borrow.Author.Tests.{le-leb}
 use lib.Dec.{leb}
 use lib.ListN.{length}
 use Rattle.rules.specs.meaning.Groups.{group_bytes}
-use Rattle.rules.specs.laws.group.Groups.{group_few, group_by_words}
+use Rattle.rules.proofs.laws.group.Groups.{group_few, group_by_words}
 use Rattle.groups.proofs.write.fits.Statement.{statement}
 use Rattle.groups.proofs.write.fits.Tie as tie
 

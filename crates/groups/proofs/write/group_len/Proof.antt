@@ -5,7 +5,7 @@ use native.Mathlib.Omega.{arith}
 use borrow.Author.Rules.{rules}
 use lib.ListN.{length}
 use Rattle.rules.specs.meaning.Leb.{leb128}
-use Rattle.rules.specs.laws.group.Groups.{never_past_961}
+use Rattle.rules.proofs.laws.group.Groups.{never_past_961}
 use Rattle.groups.proofs.Layings.{Laying, Entry, gap_is, id_bytes, length_bytes, laying_none, laying_entry, laying_room, laying_more, laying_end}
 use Rattle.groups.proofs.write.group_len.Statement.{statement}
 use Rattle.groups.proofs.write.group_len.Tie as tie

@@ -5,7 +5,7 @@ use native.Mathlib.Omega.{arith}
 use lib.ListN.{length, get_or}
 use Rattle.rules.specs.meaning.Groups.{fields_from, group_bytes}
 use Rattle.rules.specs.meaning.Put.{put}
-use Rattle.rules.specs.laws.group.Leb.{leb_some}
+use Rattle.rules.proofs.laws.group.Leb.{leb_some}
 use Rattle.groups.specs.Writing.{Led}
 use Rattle.groups.proofs.Layings.{Laying, Laid, Entry, gap_is, laying_none, laying_entry, laying_room, laying_more, laying_end, laid_more, laid_end, laid_group, count_first}
 use Rattle.groups.proofs.write.lay.Statement.{statement}

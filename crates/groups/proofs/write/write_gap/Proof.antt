@@ -3,8 +3,8 @@ use native.Mathlib.Omega.{arith}
 use borrow.Author.Rules.{rules}
 use lib.Dec.{leb}
 use lib.ListN.{length-set}
-use Rattle.rules.specs.laws.Bits.{bit_small}
-use Rattle.rules.specs.laws.group.Leb.{leb_some}
+use Rattle.rules.proofs.laws.Bits.{bit_small}
+use Rattle.rules.proofs.laws.group.Leb.{leb_some}
 use Rattle.groups.proofs.Gaps.{short_gap, long_gap}
 use Rattle.groups.proofs.write.write_gap.Statement.{statement}
 use Rattle.groups.proofs.write.write_gap.Tie as tie

@@ -11,7 +11,7 @@ use Rattle.rules.specs.declared.Sight.{Sight}
 use Rattle.rules.specs.meaning.Groups.{entries_in, forms_none}
 use Rattle.rules.specs.meaning.Operations.{merge_answer, merge_table}
 use Rattle.rules.specs.meaning.Parcels.{no_parcel}
-use Rattle.rules.specs.laws.group.Groups.{entries_sound}
+use Rattle.rules.proofs.laws.group.Groups.{entries_sound}
 use Rattle.judge.specs.Judged.{seen_as, judgement}
 use Rattle.judge.proofs.Judging.{few_words}
 use Rattle.steps.specs.Verdicts.{Ready}

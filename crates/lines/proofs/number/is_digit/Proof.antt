@@ -1,7 +1,7 @@
 -- `lines::number::is_digit`: the two bounds of a digit. Assumes nothing.
 use mathlib.Core.Path.{sym, ◌∙◌}
 use borrow.Author.Tests.{le-leb, lt-leb}
-use Rattle.rules.specs.laws.line.Numbers.{digit_test}
+use Rattle.rules.proofs.laws.line.Numbers.{digit_test}
 use Rattle.lines.proofs.number.is_digit.Statement.{statement}
 use Rattle.lines.proofs.number.is_digit.Tie as tie
 

@@ -4,7 +4,7 @@ use mathlib.Core.Path.{◌≡◌}
 use Prim.Native.Nat.{◌+◌, ◌^◌, ◌<◌}
 use lib.ListN.{length}
 use Rattle.rules.specs.meaning.Number.{digits}
-use Rattle.rules.specs.laws.line.Numbers.{digits_length, one_digit}
+use Rattle.rules.proofs.laws.line.Numbers.{digits_length, one_digit}
 use Rattle.lines.proofs.Counts.{two_digits, three_digits, four_digits, four_more}
 use Rattle.lines.proofs.number.places.Statement.{statement}
 use Rattle.lines.proofs.number.places.Tie as tie

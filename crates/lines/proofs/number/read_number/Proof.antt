@@ -7,7 +7,7 @@ use Prim.Native.Nat.{◌-◌, ◌^◌, ◌≤◌, ◌<◌, max}
 use lib.ListN.{length, drop}
 use Rattle.rules.specs.meaning.Text.{front}
 use Rattle.rules.specs.meaning.Number.{digit_run}
-use Rattle.rules.specs.laws.line.Numbers.{below}
+use Rattle.rules.proofs.laws.line.Numbers.{below}
 use mathlib.Core.Logic.{⊎_elim}
 use Rattle.lines.proofs.Digits.{digit_says, other_says, run_more, run_end, run_other, refuse_over, refuse_empty, refuse_long, accept}
 use Rattle.lines.proofs.number.read_number.Statement.{statement}

@@ -7,7 +7,7 @@ use mathlib.Core.List.{◌++◌}
 use Prim.Native.Nat.{ℕ, ◌+◌, ◌-◌, ◌/◌, ◌%◌, ◌^◌, ◌≤◌, ◌<◌}
 use lib.ListN.{length, take, drop, set, length-set}
 use Rattle.rules.specs.meaning.Number.{digits}
-use Rattle.rules.specs.laws.line.Numbers.{one_digit, digits_some}
+use Rattle.rules.proofs.laws.line.Numbers.{one_digit, digits_some}
 use Rattle.lines.proofs.Counts.{two_digits, two_more}
 use Rattle.lines.proofs.Spelling.{stored_two, spell_two, spell_last, spell_last_two, front_kept, front_kept_two, put_is}
 use Rattle.lines.proofs.number.write_number.Statement.{statement}

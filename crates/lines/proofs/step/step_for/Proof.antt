@@ -1,7 +1,7 @@
 -- `lines::step::step_for`: numbers that name no step, or the step of their kind. Assumes nothing.
 use mathlib.Core.Path.{sym, ◌∙◌}
 use borrow.Author.Tests.{not-true, not-false}
-use Rattle.rules.specs.laws.line.Lines.{step_says}
+use Rattle.rules.proofs.laws.line.Lines.{step_says}
 use Rattle.lines.proofs.Steps.{step_none, step_is}
 use borrow.Author.Rules.{rules}
 use Rattle.lines.proofs.step.step_for.Statement.{statement}

@@ -2,7 +2,7 @@
 use native.Mathlib.Omega.{arith}
 use mathlib.Core.Path.{sym, ◌∙◌}
 use borrow.Author.Tests.{not-true, not-false}
-use Rattle.rules.specs.laws.line.Lines.{step_says}
+use Rattle.rules.proofs.laws.line.Lines.{step_says}
 use Rattle.lines.proofs.Writings.{check_step, check_room, check_ok}
 use borrow.Author.Rules.{rules}
 use Rattle.lines.proofs.write.check_line.Statement.{statement}

@@ -1,7 +1,7 @@
 -- `links::serial::is_newer`: the order by the wrapped difference, which is a law of `rules`.
 -- Assumes nothing.
 use Rattle.std.proofs.Common.{sym, arith, rules}
-use Rattle.rules.specs.laws.Serials.{newer_ahead}
+use Rattle.rules.proofs.laws.Serials.{newer_ahead}
 use Rattle.links.proofs.serial.is_newer.Statement.{statement}
 use Rattle.links.proofs.serial.is_newer.Tie as tie
 

@@ -6,7 +6,7 @@ use mathlib.Core.Path.{◌≡◌, ◌∙◌}
 use lib.Dec.{leb}
 use borrow.Author.Rules.{rules}
 use borrow.Author.Tests.{le-leb, lt-leb, lt-ltb, le-ltb}
-use Rattle.rules.specs.laws.Bits.{bit_small}
+use Rattle.rules.proofs.laws.Bits.{bit_small}
 use Rattle.merging.proofs.turns.settle.Statement.{statement}
 use Rattle.merging.proofs.turns.settle.Tie as tie
 

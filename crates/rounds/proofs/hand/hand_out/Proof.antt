@@ -5,7 +5,7 @@ use native.Mathlib.Omega.{arith}
 use lib.ListN.{length, drop, length-drop}
 use lib.Seq.{length-take-le}
 use Rattle.rules.specs.meaning.States.{width}
-use Rattle.rules.specs.laws.run.Sites.{part_fits}
+use Rattle.rules.proofs.laws.run.Sites.{part_fits}
 use Rattle.judge.proofs.Judging.{few_words}
 use Rattle.rounds.proofs.Handing.{Handed, hand_start, hand_long, hand_more, hand_end}
 use Rattle.rounds.proofs.hand.hand_out.Statement.{statement}

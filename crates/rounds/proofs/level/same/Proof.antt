@@ -8,7 +8,7 @@ use mathlib.Core.Path.{◌≡◌, refl, sym, ◌∙◌}
 use lib.ListN.{length, take, get_or}
 use lib.Seq.{take_all, take-suc}
 use borrow.Author.Tests.{eqb-true}
-use Rattle.rules.specs.laws.table.View.{parts}
+use Rattle.rules.proofs.laws.table.View.{parts}
 use Rattle.rounds.proofs.level.same.Statement.{statement}
 use Rattle.rounds.proofs.level.same.Tie as tie
 

@@ -2,7 +2,7 @@
 -- Assumes nothing.
 use Prim.Native.Nat.{◌*◌, ◌+◌, ◌≤◌}
 use mathlib.Core.Path.{refl}
-use Rattle.rules.specs.laws.run.Sites.{part_fits}
+use Rattle.rules.proofs.laws.run.Sites.{part_fits}
 use Rattle.judge.proofs.Judging.{few_words}
 use native.Mathlib.Omega.{arith}
 use borrow.Author.Rules.{rules}

@@ -2,7 +2,7 @@
 -- Assumes nothing.
 use mathlib.Core.Path.{sym}
 use Rattle.rules.specs.meaning.Lengths.{M}
-use Rattle.rules.specs.laws.table.Places.{Laid, laid_of, found_none}
+use Rattle.rules.proofs.laws.table.Places.{Laid, laid_of, found_none}
 use Rattle.table.proofs.Search.{span_found, span_none}
 use native.Mathlib.Omega.{arith}
 use borrow.Author.Rules.{rules}

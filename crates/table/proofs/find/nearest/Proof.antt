@@ -5,7 +5,7 @@ use mathlib.Core.Path.{◌≡◌, sym, ◌∙◌}
 use mathlib.Core.Logic.{⊎_elim}
 use Rattle.rules.specs.meaning.Lengths.{M}
 use Rattle.rules.specs.meaning.Table.{held}
-use Rattle.rules.specs.laws.table.Places.{Laid, laid_of}
+use Rattle.rules.proofs.laws.table.Places.{Laid, laid_of}
 use Rattle.table.specs.Loops.{Span}
 use Rattle.table.proofs.Powers.{one_shifted, bit_shifted, positive, bit_le, last, inside, first_up, first_stay, next}
 use native.Mathlib.Omega.{arith}

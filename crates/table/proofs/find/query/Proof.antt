@@ -4,7 +4,7 @@ use Prim.Native.Nat.{ℕ, ◌<◌, ◌+◌, ◌*◌}
 use mathlib.Core.Path.{◌≡◌, sym, ◌∙◌}
 use Rattle.rules.specs.meaning.Lengths.{M}
 use Rattle.rules.specs.meaning.Table.{length_at, length_of}
-use Rattle.rules.specs.laws.table.Places.{Laid, laid_of, at_found, none_found}
+use Rattle.rules.proofs.laws.table.Places.{Laid, laid_of, at_found, none_found}
 use native.Mathlib.Omega.{arith}
 use borrow.Author.Rules.{rules}
 use Rattle.table.proofs.find.query.Statement.{statement}

@@ -2,7 +2,7 @@
 -- Assumes nothing.
 use mathlib.Core.Path.{refl}
 use Rattle.rules.specs.meaning.Lengths.{M}
-use Rattle.rules.specs.laws.table.Places.{Laid, laid_of, rank_most}
+use Rattle.rules.proofs.laws.table.Places.{Laid, laid_of, rank_most}
 use Rattle.table.proofs.Search.{span_rank}
 use native.Mathlib.Omega.{arith}
 use borrow.Author.Rules.{rules}

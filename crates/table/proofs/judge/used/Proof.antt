@@ -7,7 +7,7 @@ use mathlib.Core.Logic.{⊎_elim}
 use lib.ListN.{length, get_or}
 use Rattle.rules.specs.meaning.Lengths.{M}
 use Rattle.rules.specs.meaning.Table.{SoundTable, held}
-use Rattle.rules.specs.laws.table.Places.{Laid, laid_of, used_at, unused_at}
+use Rattle.rules.proofs.laws.table.Places.{Laid, laid_of, used_at, unused_at}
 use native.Mathlib.Omega.{arith}
 use borrow.Author.Rules.{rules}
 use Rattle.table.proofs.judge.used.Statement.{statement}

@@ -7,7 +7,7 @@ use lib.ListN.{length}
 use Rattle.rules.specs.declared.Found.TheVariants.{At, Absent}
 use Rattle.rules.specs.meaning.Table.{found_of, length_of}
 use Rattle.rules.specs.meaning.Lengths.{after_add}
-use Rattle.rules.specs.laws.Lengths.{add_above_zero, add_none}
+use Rattle.rules.proofs.laws.Lengths.{add_above_zero, add_none}
 use Rattle.rules.specs.meaning.Operations.{raise_answer, raise_table}
 use Rattle.table.proofs.Raising.{place, its, raise_here, none}
 use native.Mathlib.Omega.{arith}

@@ -6,8 +6,8 @@ use lib.ListN.{length, length-take, length-drop}
 use borrow.Rule.Slice.PartMut.{put_mid}
 use Rattle.rules.specs.meaning.Lengths.{M}
 use Rattle.rules.specs.meaning.Table.{held}
-use Rattle.rules.specs.laws.table.Law.{sound_wider}
-use Rattle.rules.specs.laws.table.Places.{Laid, laid_of, rank_most}
+use Rattle.rules.proofs.laws.table.Law.{sound_wider}
+use Rattle.rules.proofs.laws.table.Places.{Laid, laid_of, rank_most}
 use Rattle.table.specs.Loops.{Moved}
 use Rattle.table.proofs.Shift.{part_moved, inserted}
 use native.Mathlib.Omega.{arith}

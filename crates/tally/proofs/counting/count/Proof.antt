@@ -2,7 +2,7 @@
 -- Assumes nothing.
 use borrow.Author.Rules.{rules}
 use Rattle.rules.specs.meaning.Lengths.{M}
-use Rattle.rules.specs.laws.table.Places.{laid_of}
+use Rattle.rules.proofs.laws.table.Places.{laid_of}
 use Rattle.tally.proofs.Joint.{walk_end}
 use Rattle.tally.proofs.counting.count.Statement.{statement}
 use Rattle.tally.proofs.counting.count.Tie as tie

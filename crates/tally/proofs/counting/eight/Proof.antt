@@ -4,7 +4,7 @@ use Prim.Native.Nat.{◌-◌, ◌≤◌}
 use native.Mathlib.Omega.{arith}
 use borrow.Author.Rules.{rules}
 use Rattle.rules.specs.meaning.Lengths.{M}
-use Rattle.rules.specs.laws.table.Places.{laid_of}
+use Rattle.rules.proofs.laws.table.Places.{laid_of}
 use Rattle.tally.proofs.Joint.{Turns, turns_none, turned, turns_done}
 use Rattle.tally.proofs.counting.eight.Statement.{statement}
 use Rattle.tally.proofs.counting.eight.Tie as tie

@@ -3,7 +3,7 @@
 use native.Mathlib.Omega.{arith}
 use borrow.Author.Rules.{rules}
 use Rattle.rules.specs.meaning.Lengths.{M}
-use Rattle.rules.specs.laws.table.Places.{laid_of}
+use Rattle.rules.proofs.laws.table.Places.{laid_of}
 use Rattle.tally.proofs.Joint.{walk_four}
 use Rattle.tally.proofs.counting.four.Statement.{statement}
 use Rattle.tally.proofs.counting.four.Tie as tie

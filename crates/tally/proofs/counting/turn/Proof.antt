@@ -4,7 +4,7 @@ use mathlib.Core.Logic.{⊎_elim}
 use native.Mathlib.Omega.{arith}
 use borrow.Author.Rules.{rules}
 use Rattle.rules.specs.meaning.Lengths.{M}
-use Rattle.rules.specs.laws.table.Places.{laid_of}
+use Rattle.rules.proofs.laws.table.Places.{laid_of}
 use Rattle.tally.proofs.Joint.{walk_own, walk_both, walk_new}
 use Rattle.tally.proofs.counting.turn.Statement.{statement}
 use Rattle.tally.proofs.counting.turn.Tie as tie

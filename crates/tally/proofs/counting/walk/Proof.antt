@@ -3,7 +3,7 @@
 use Prim.Native.Nat.{◌+◌, ◌-◌}
 use native.Mathlib.Omega.{arith}
 use Rattle.rules.specs.meaning.Lengths.{M}
-use Rattle.rules.specs.laws.table.Places.{laid_of}
+use Rattle.rules.proofs.laws.table.Places.{laid_of}
 use Rattle.tally.specs.Joined.{Walk}
 use Rattle.tally.proofs.Joint.{walk_start}
 use Rattle.tally.proofs.counting.walk.Statement.{statement}

@@ -9,7 +9,7 @@ use lib.Dec.{leb, ltb}
 use mir.Val.{bool_byte}
 use borrow.Author.Rules.{rules}
 use borrow.Author.Tests.{le-leb, lt-leb}
-use Rattle.rules.specs.laws.Bits.{bit_is, bit_small}
+use Rattle.rules.proofs.laws.Bits.{bit_is, bit_small}
 use Rattle.tally.proofs.passes.pass.Statement.{statement}
 use Rattle.tally.proofs.passes.pass.Tie as tie
 
