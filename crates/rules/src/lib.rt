@@ -36,21 +36,21 @@ pub const ENTRIES: usize = 256;
 pub const NO_LINK: usize = ENTRIES;
 
 // Where an id stands in a table: the place of its entry, or its absence.
-#[derive(Drop)]
+#[derive(Clone, Copy)]
 pub enum Found {
     At(usize),
     Absent,
 }
 
 // What an operation answers: 0 or the number of its refusal, and its other result, which is 0 on a refusal.
-#[derive(Drop)]
+#[derive(Clone, Copy)]
 pub struct Answer {
     pub refusal: u32,
     pub value: u64,
 }
 
 // The sizes of a run, named at each call: the number of sites, and how many entries a table has room for.
-#[derive(Drop)]
+#[derive(Clone, Copy)]
 pub struct Run {
     pub sites: u64,
     pub capacity: u64,
@@ -58,7 +58,7 @@ pub struct Run {
 
 // One slot of the parcel list: an update under way to a site, with the site that sent it and its serial; or all 0 where the slot is free.
 #[repr(C)]
-#[derive(Drop)]
+#[derive(Clone, Copy)]
 pub struct Parcel {
     pub site: u64,
     pub id: u64,
@@ -70,7 +70,7 @@ pub struct Parcel {
 // What is kept of the link from one site to another: the next serial to go out, the newest one heard, a mark for nothing sent and one for nothing
 // heard. A mark stands where it is not 0.
 #[repr(C)]
-#[derive(Drop)]
+#[derive(Clone, Copy)]
 pub struct Pair {
     pub next: u32,
     pub heard: u32,
@@ -80,7 +80,7 @@ pub struct Pair {
 
 // The counts of updates: sent, copied, absorbed, lost. How many wait is not stored.
 #[repr(C)]
-#[derive(Drop)]
+#[derive(Clone, Copy)]
 pub struct Counts {
     pub sent: u64,
     pub copied: u64,
@@ -90,7 +90,7 @@ pub struct Counts {
 
 // The counts, and an entry for each ordered pair of sites: that of site a to site b is at 16 a + b, however many sites a run has.
 #[repr(C)]
-#[derive(Drop)]
+#[derive(Clone, Copy)]
 pub struct Ledger {
     pub counts: Counts,
     pub pairs: [Pair; ENTRIES],
@@ -98,7 +98,7 @@ pub struct Ledger {
 
 // What one pass over the slots tells: whether each is free or rightly occupied, how many are occupied, and the lowest free one, or the number
 // of slots where none is free.
-#[derive(Drop)]
+#[derive(Clone, Copy)]
 pub struct Scan {
     pub sound: bool,
     pub waiting: u64,
@@ -106,7 +106,7 @@ pub struct Scan {
 }
 
 // What a step sees of the ledger: the counts, the link that it names with its entry, and whether the entries of the run's links are sound.
-#[derive(Drop)]
+#[derive(Clone, Copy)]
 pub struct Seen {
     pub counts: Counts,
     pub link: usize,
@@ -116,7 +116,7 @@ pub struct Seen {
 
 // What a step sees besides the words: what one pass over the slots told, the parcel in the slot that the step names, how many slots there are,
 // and what it sees of the ledger.
-#[derive(Drop)]
+#[derive(Clone, Copy)]
 pub struct Sight {
     pub scan: Scan,
     pub named: Parcel,
@@ -125,14 +125,14 @@ pub struct Sight {
 }
 
 // What the lag query answers: 0 or the number of its refusal, and the lag, which is 0 on a refusal.
-#[derive(Drop)]
+#[derive(Clone, Copy)]
 pub struct Lag {
     pub refusal: u32,
     pub lag: i32,
 }
 
 // The eight steps of a run.
-#[derive(Drop)]
+#[derive(Clone, Copy)]
 pub enum Step {
     Add { site: u64, id: u64 },
     Remove { site: u64, id: u64 },
@@ -145,35 +145,35 @@ pub enum Step {
 }
 
 // A piece of a step line: its number, 0 for a piece of fixed text, and the place behind it; or that it does not stand there.
-#[derive(Drop)]
+#[derive(Clone, Copy)]
 pub enum Piece {
     Read(u64, usize),
     Refused,
 }
 
 // What a text says: the four numbers of a step (kind, first site or slot, second site, id; unused ones 0), or that it is not a step line.
-#[derive(Drop)]
+#[derive(Clone, Copy)]
 pub enum Line {
     Numbers(u64, u64, u64, u64),
     NoLine,
 }
 
 // What four numbers or a text name: a step, or none.
-#[derive(Drop)]
+#[derive(Clone, Copy)]
 pub enum Named {
     Is(Step),
     NoStep,
 }
 
 // What the report answers: 0 or the number of its refusal, and how many bytes it wrote, 0 on a refusal.
-#[derive(Drop)]
+#[derive(Clone, Copy)]
 pub struct Reported {
     pub refusal: u32,
     pub written: usize,
 }
 
 // What the writer and the reader of groups answer: 0 or the number of the refusal, and how many bytes or entries were written, 0 on a refusal.
-#[derive(Drop)]
+#[derive(Clone, Copy)]
 pub struct Grouped {
     pub refusal: u32,
     pub count: usize,
