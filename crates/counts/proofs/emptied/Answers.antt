@@ -1,7 +1,6 @@
 -- `counts::emptied`: by whether it is wanted.
 use Rattle.counts.proofs.emptied.Goals as goal
 
--- Assumes nothing.
 pub returns-then-wanted : goal.returns-then-wanted
 returns-then-wanted c = rw c.if-wanted.true
 

@@ -4,7 +4,6 @@ use Rattle.rules.specs.meaning.Lengths.{M}
 use Rattle.counts.proofs.Judging.{too_many_sent, too_many_copied, too_many_absorbed, too_many_lost, more_back_than_out, weighed}
 use Rattle.counts.proofs.sound.Goals as goal
 
--- Assumes nothing.
 pub returns-then-counts-gt-M : goal.returns-then-counts-gt-M
 returns-then-counts-gt-M c = too_many_sent M _ _ (omega arith)
 

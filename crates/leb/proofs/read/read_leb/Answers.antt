@@ -1,4 +1,3 @@
-use borrow.Author.Rules.{rules}
 use Rattle.leb.proofs.Readings.{leb_none, leb_one, leb_on}
 use Rattle.leb.proofs.read.read_leb.Goals as goal
 

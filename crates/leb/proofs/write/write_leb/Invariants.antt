@@ -6,7 +6,6 @@ use Rattle.rules.specs.meaning.Leb.{leb128}
 use Rattle.rules.specs.meaning.Put.{put}
 use Rattle.leb.proofs.write.write_leb.Given as goal
 
--- Assumes nothing.
 abbrev pub invariant-loop-rest : goal.invariant-loop-rest
 invariant-loop-rest l =
     (put l.out l.i (leb128 l.rest) ≡ put l.initial.out l.place (leb128 l.n)) × (l.i + length (leb128 l.rest) ≡ l.place + length (leb128 l.n)) × (length l.out ≡ length l.initial.out) × (l.rest < 2 ^ 64)

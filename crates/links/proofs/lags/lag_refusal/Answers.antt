@@ -3,7 +3,6 @@ use Rattle.std.proofs.Common.{true, false, sym, ◌∙◌}
 use Rattle.links.proofs.OwnTests.{lag_from, lag_to, lag_same, lag_silent, lag_by_order}
 use Rattle.links.proofs.lags.lag_refusal.Goals as goal
 
--- Assumes nothing.
 pub returns-then-run-from : goal.returns-then-run-from
 returns-then-run-from c = let a = c.args in lag_from a.run a.pair a.from a.to c.if-run-from.true
 

@@ -3,7 +3,6 @@ use Rattle.std.proofs.Common.{◌≡◌, Bool, true, false, not, refl}
 use Rattle.rules.specs.meaning.Links.{incomparable}
 use Rattle.links.proofs.pairs.incomparable.Goals as goal
 
--- Assumes nothing.
 not_not : (t : Bool) → not (not t) ≡ t
 not_not true = refl
 not_not false = refl

@@ -3,7 +3,6 @@ use Rattle.std.proofs.Common.{refl}
 use Rattle.rules.specs.meaning.Links.{pair_sound}
 use Rattle.links.proofs.pairs.pair_sound.Goals as goal
 
--- Assumes nothing.
 pub returns : goal.returns
 unfolding pair_sound
 returns c = refl

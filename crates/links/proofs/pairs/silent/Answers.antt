@@ -3,7 +3,6 @@ use Rattle.std.proofs.Common.{refl}
 use Rattle.rules.specs.meaning.Lags.{silent}
 use Rattle.links.proofs.pairs.silent.Goals as goal
 
--- Assumes nothing.
 pub returns : goal.returns
 unfolding silent
 returns c = refl

@@ -4,7 +4,6 @@ use mir.ValLaws.{to_z-of_z}
 use Rattle.rules.specs.meaning.Serials.{half, largest_serial, ahead, lag_of}
 use Rattle.links.proofs.serial.lag.Goals as goal
 
--- Assumes nothing.
 -- ---- the lag by the wrapped difference
 lag_up : (heard last up : ℕ) → up ≡ ahead heard last → up < half → pos up ≡ lag_of heard last
 unfolding lag_of

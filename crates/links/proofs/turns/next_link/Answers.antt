@@ -3,7 +3,6 @@ use Rattle.std.proofs.Common.{sym, arith}
 use Rattle.links.specs.Turns.{next_in, next_out}
 use Rattle.links.proofs.turns.next_link.Goals as goal
 
--- Assumes nothing.
 pub next_to-to-requires : goal.next_to-to-requires
 next_to-to-requires c = c.requires.1
 
