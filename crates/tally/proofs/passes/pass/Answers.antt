@@ -1,17 +1,14 @@
 -- `tally::passes::pass`: by the three ways that the ids compare, each of which settles both tests.
--- Assumes nothing.
 use Prim.Native.Nat.{ℕ, ◌≤◌, ◌<◌}
 use mathlib.Core.Path.{◌≡◌, ◌∙◌}
 use mathlib.Core.Bool.{Bool, true, false, cond, ◌&&◌}
-use mathlib.Core.Logic.{⊎_elim}
 use native.Mathlib.Omega.{arith}
 use lib.Dec.{leb, ltb}
 use mir.Val.{bool_byte}
-use borrow.Author.Rules.{rules}
 use borrow.Author.Tests.{le-leb, lt-leb}
 use Rattle.rules.proofs.laws.Bits.{bit_is, bit_small}
-use Rattle.tally.proofs.passes.pass.Statement.{statement}
-use Rattle.tally.proofs.passes.pass.Tie as tie
+use Rattle.tally.proofs.passes.pass.Goals as goal
+use Rattle.tally.proofs.passes.pass.Goals.{then-on, else-on, then-other_on, else-other_on}
 
 module _ (mine after id next m d : ℕ) (more : Bool) (em : m ≡ cond (leb mine id) after mine) (ed : d ≡ cond (leb id mine) next id) where
   abbrev Passing : (own others mine' id' rises : ℕ) → Type 0
@@ -33,28 +30,11 @@ module _ (mine after id next m d : ℕ) (more : Bool) (em : m ≡ cond (leb mine
       × ((bool_byte (leb mine id) ≤ 1) × (bool_byte (leb id mine) ≤ 1) × (bool_byte ((leb mine id && leb id mine) && more) ≤ 1))))
   passed = (below, (same, (above, (bit_small (leb mine id), bit_small (leb id mine), bit_small ((leb mine id && leb id mine) && more)))))
 
-cast-t21 : tie.Need-overflow-cast-t21
-cast-t21 c = search rules
-
-cast-t23 : tie.Need-overflow-cast-t23
-cast-t23 c = search rules
-
-cast-t31 : tie.Need-overflow-cast-t31
-cast-t31 c = search rules
-
-returns : tie.Need-returns
+pub returns : goal.returns
 returns c =
-    let a = c.before.before.args in
-    passed
-    a.mine
-    a.after
-    a.id
-    a.next
-    c.before.if1.t26
-    c.if2.t29
-    (ltb a.kept a.length)
-    (⊎_elim (λ w. rw w.0.taken w.1) (λ w. rw w.0.left w.1) c.before.if1.branch)
-    (⊎_elim (λ w. rw w.0.taken w.1) (λ w. rw w.0.left w.1) c.if2.branch)
-
-pub pass_spec : {M : Type 1} → statement M
-pass_spec = tie.close (tie.spec cast-t21 cast-t23 cast-t31 returns)
+    let a = c.args in
+    let p =
+        passed a.mine a.after a.id a.next c.if-on.result c.if-other_on.result (ltb a.kept a.length)
+        (elim c.if-on.branch [ then-on w ↦ rw (le-leb _ _ w.if-on.true) w.result-is | else-on w ↦ rw (lt-leb _ _ w.if-on.false) w.result-is ])
+        (elim c.if-other_on.branch [ then-other_on w ↦ rw (le-leb _ _ w.if-other_on.true) w.result-is | else-other_on w ↦ rw (lt-leb _ _ w.if-other_on.false) w.result-is ]) in
+    record { own_value = p.0; own_value_2 = p.1.0; own_value_3 = p.1.1.0; own_bound = p.1.1.1 }
