@@ -5,7 +5,6 @@
 --     one_turn     the slots from i on are the slot i and those from i + 1 on.        all_seen     none is left
 --     fewer        a turn counts at most one
 --     clear_none   no slot is cleared.        clear_one    one more slot is cleared.        clear_all    as many as there are to clear is as many as are asked for.        length_cleared   no slot comes or goes
--- Assumes nothing.
 use Rattle.std.specs.Prelude.{◌≡◌, refl, ℕ, zero, suc, ◌+◌, ◌<◌, ◌≤◌, min, Bool, true, false, ◌&&◌, ◌||◌, cond, ltb, length, drop, get_or, set}
 use Rattle.std.proofs.Math.Path.{sym}
 use Rattle.std.proofs.Common.{ap, ◌∙◌, subst, arith, add-zero, zero-add, add-one, drop-cons, lt-ltb, le-ltb, ltb-true, ltb-false}

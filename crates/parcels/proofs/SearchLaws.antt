@@ -1,7 +1,6 @@
 -- A search for a free slot that ends at the first one: what its turns come to.
 --     found        what a search gives that has come to i, and is to end at `end`
 --     find_first   before any slot is seen, from a number on below which none is free.        find_next    one slot seen.        find_last    the search is over
--- Assumes nothing.
 use Rattle.std.specs.Prelude.{◌≡◌, refl, ℕ, zero, suc, ◌+◌, ◌<◌, ◌≤◌, Bool, true, false, cond, List, [], ◌∷◌, ltb, length, drop, get_or}
 use Rattle.std.proofs.Common.{sym, ap, ◌∙◌, arith, zero-add, add-one, drop-cons, lt-ltb, le-ltb, ltb-false}
 use Rattle.std.proofs.Math.Seq.{drop-length}
