@@ -3,7 +3,7 @@
 // in the crates `counts` and `links`.
 #![tactic(auto)]
 
-ghost use Rattle.std.specs.Prelude.{◌≡◌, get_or};
+ghost use Rattle.std.specs.Prelude.{◌≡◌, get_or, length};
 ghost use Rattle.rules.specs.meaning.Lengths.{M};
 ghost use Rattle.rules.specs.meaning.Links.{no_pair, links_sound};
 ghost use Rattle.rules.specs.meaning.Ledgers.{seen_of, booked_ledger, started_if};
@@ -61,9 +61,11 @@ pub fn see(ledger: &Ledger, sites: u64, link: usize) -> Seen
     }
 }
 
-// All that a step changes of the ledger. Counter 0, and any above 4, raises none; a link past the last entry sets none.
+// All that a step changes of the ledger. Counter 0, and any above 4, raises none; a link past the last entry sets none. Whoever books nothing has to know
+// how many entries there are, so it tells that too.
 pub fn book(ledger: &mut Ledger, counter: u64, link: usize, pair: Pair)
-    ensures { ledger.new ≡ booked_ledger M counter link pair ledger.old }
+    ensures booked { ledger.new ≡ booked_ledger M counter link pair ledger.old }
+    ensures whole { length ledger.old.pairs ≡ 256 }
 {
     let before = ledger.counts;
     let after = raised(before, counter);

@@ -22,7 +22,7 @@ use Rattle.rules.specs.declared.Sight.{Sight}
 use Rattle.rules.specs.declared.Step.{Step}
 use Rattle.rules.specs.declared.Step.TheVariants.{Add, Remove, Query, Send, Merge, Deliver, Again, Lose}
 use Rattle.rules.specs.meaning.Lengths.{M}
-use Rattle.rules.specs.meaning.Operations.{answer, unless_refused}
+use Rattle.rules.specs.meaning.Operations.{unless_refused}
 use Rattle.rules.specs.meaning.Links.{no_link, no_pair, link_between}
 use Rattle.rules.specs.meaning.Ledgers.{booked_ledger, started_if, seen_of}
 use Rattle.rules.proofs.laws.run.Ledgers.{raised_none}
