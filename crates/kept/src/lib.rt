@@ -10,7 +10,7 @@ ghost use Rattle.kept.specs.Kept.{kept_state};
 
 use rules::{Answer, Counts, ENTRIES, Ledger, Pair, Parcel, Run, Step};
 
-#[derive(Drop)]
+#[derive(Clone, Copy)]
 pub struct Kept {
     pub words: [u64; 48],
     pub slots: [Parcel; 8],
@@ -18,7 +18,7 @@ pub struct Kept {
 }
 
 // What a step makes of a kept run: the run after it, and the answer.
-#[derive(Drop)]
+#[derive(Clone, Copy)]
 pub struct Moved {
     pub kept: Kept,
     pub answer: Answer,

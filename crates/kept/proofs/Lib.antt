@@ -1,5 +1,0 @@
-pub mod Elements
-pub mod LentRun
-pub mod Locals
-pub mod OnAct
-pub mod OnStep
