@@ -1,0 +1,18 @@
+-- `report::ends::write_sites`. Invariant: the lines of the sites from k on are what is left.
+use native.Mathlib.Omega.{arith}
+use mathlib.Core.Path.{◌≡◌, refl}
+use mathlib.Core.List.{List, ◌++◌}
+use Prim.Native.Nat.{ℕ, ◌+◌, ◌-◌, ◌≤◌}
+use lib.ListN.{length}
+use Rattle.rules.specs.meaning.Put.{put}
+use Rattle.rules.specs.meaning.Reports.{site_line, site_lines}
+use Rattle.report.specs.Tables.{ThreeTables}
+use Rattle.report.proofs.Left.{Left, left_all, left_room, left_next, left_as, laid_none}
+use Rattle.report.proofs.Counted.{part_of, part_is, sites_from, sites_end}
+use Rattle.report.proofs.ends.write_sites.Given as goal
+
+abbrev pub invariant-loop-k : goal.invariant-loop-k
+invariant-loop-k l = (l.k ≤ 3) × (length l.out ≡ length l.initial.out) × ThreeTables l.words × Left l.out l.next (site_lines (3 - l.k) l.k l.words) (l.place + length (site_lines 3 0 l.words)) (put l.initial.out l.place (site_lines 3 0 l.words))
+
+abbrev pub decreases-loop-k : goal.decreases-loop-k
+decreases-loop-k l = 3 - l.k
