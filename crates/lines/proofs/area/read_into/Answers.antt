@@ -10,8 +10,7 @@ pub returns-in_default : goal.returns-in_default
 returns-in_default c = area_none _ _ c.if-area-lt32.false (sym c.in_default.is ∙ c.read_line.ensures)
 
 pub returns : goal.returns
-returns c = let r = c in
-    area_laid _ _ _ _ _ _ _ _ _ _ r.if-area-lt32.false (sym r.in-Numbers.is ∙ r.read_line.ensures)
+returns c = area_laid _ _ _ _ _ _ _ _ _ _ c.if-area-lt32.false (sym c.in-Numbers.is ∙ c.read_line.ensures)
     c.write_word.ensures
     c.write_word-2.ensures
     c.write_word-3.ensures
