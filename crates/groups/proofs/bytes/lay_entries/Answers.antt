@@ -30,9 +30,9 @@ loop-k-preserved c =
 pub returns-then-place-bytes : goal.returns-then-place-bytes
 returns-then-place-bytes c =
     let l = c.loop-k in
-    filling_left _ _ _ l.words _ _ _ l.invariant.0 c.loop-k-test.false c.if-place-bytes.true
+    filling_left _ _ _ l.words _ _ _ l.invariant.0 c.loop-k-test.false (omega arith)
 
 pub returns : goal.returns
 returns c =
     let l = c.loop-k in
-    filling_all _ _ _ l.words _ _ _ l.invariant.0 c.loop-k-test.false c.if-place-bytes.false
+    filling_all _ _ _ l.words _ _ _ l.invariant.0 c.loop-k-test.false (omega arith)

@@ -9,24 +9,20 @@ returns-in_default c = two_missing _ _ _ (sym c.read_two.ensures ∙ c.in_defaul
 
 pub returns-then-less-ge-M : goal.returns-then-less-ge-M
 returns-then-less-ge-M c =
-    let g = c in
-    let t = two_says _ _ _ _ _ (sym g.read_two.ensures ∙ g.in-Numbers.is) in
+    let t = two_says _ _ _ _ _ (sym c.read_two.ensures ∙ c.in-Numbers.is) in
     no_length _ _ _ _ t.0 t.1 _ _ t.2 c.if-less-ge-M.true
 
 pub returns-then-above-step : goal.returns-then-above-step
 returns-then-above-step c =
-    let g = c in
-    let t = two_says _ _ _ _ _ (sym g.read_two.ensures ∙ g.in-Numbers.is) in
+    let t = two_says _ _ _ _ _ (sym c.read_two.ensures ∙ c.in-Numbers.is) in
     no_id _ _ _ _ t.0 t.1 _ _ t.2 (omega arith)
 
 pub returns-then-above-step-2 : goal.returns-then-above-step-2
 returns-then-above-step-2 c =
-    let g = c in
-    let t = two_says _ _ _ _ _ (sym g.read_two.ensures ∙ g.in-Numbers.is) in
+    let t = two_says _ _ _ _ _ (sym c.read_two.ensures ∙ c.in-Numbers.is) in
     no_id _ _ _ _ t.0 t.1 _ _ t.2 (omega arith)
 
 pub returns : goal.returns
 returns c =
-    let g = c in
-    let t = two_says _ _ _ _ _ (sym g.read_two.ensures ∙ g.in-Numbers.is) in
+    let t = two_says _ _ _ _ _ (sym c.read_two.ensures ∙ c.in-Numbers.is) in
     an_entry _ _ _ _ t.0 t.1 _ _ t.2 (omega arith) c.if-less-ge-M.false

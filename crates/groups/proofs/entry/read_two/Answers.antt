@@ -11,15 +11,13 @@ loop-k-init c = (omega arith, refl)
 
 pub returns-in_default : goal.returns-in_default
 returns-in_default c =
-    let r = c in
-    let l = r.loop-k in
-    no_two _ l.k l.place l.first l.second _ l.invariant.1 r.loop-k-test.true (sym r.read_leb.ensures ∙ c.in_default.is)
+    let l = c.loop-k in
+    no_two _ l.k l.place l.first l.second _ l.invariant.1 c.loop-k-test.true (sym c.read_leb.ensures ∙ c.in_default.is)
 
 pub loop-k-preserved : goal.loop-k-preserved
 loop-k-preserved c =
-    let r = c in
-    let l = r.loop-k in
-    (omega arith, next_two _ l.k l.place l.first l.second _ l.invariant.1 r.loop-k-test.true _ _ (sym r.read_leb.ensures ∙ c.in-Read.is))
+    let l = c.loop-k in
+    (omega arith, next_two _ l.k l.place l.first l.second _ l.invariant.1 c.loop-k-test.true _ _ (sym c.read_leb.ensures ∙ c.in-Read.is))
 
 pub returns : goal.returns
 returns c =

@@ -10,13 +10,11 @@ loop-i-init c = (refl, refl)
 
 pub loop-i-preserved : goal.loop-i-preserved
 loop-i-preserved c =
-    let a = c in
-    let l = a.loop-i in
-    (copy_more _ _ _ a.requires.0 l.entries l.i c.loop-i-test.true (omega arith) l.invariant.0, simp length-set l.invariant.1)
+    let l = c.loop-i in
+    (copy_more _ _ _ c.requires.0 l.entries l.i c.loop-i-test.true (omega arith) l.invariant.0, simp length-set l.invariant.1)
 
 pub shape_of-entries : goal.shape_of-entries
 shape_of-entries c = c.loop-i.invariant.1
 
 pub returns : goal.returns
-returns c = let a = c in
-    copy_end _ _ _ a.requires.0 a.loop-i.entries a.loop-i.i c.loop-i-test.false a.loop-i.invariant.0
+returns c = copy_end _ _ _ c.requires.0 c.loop-i.entries c.loop-i.i c.loop-i-test.false c.loop-i.invariant.0

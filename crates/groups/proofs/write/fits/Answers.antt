@@ -16,8 +16,7 @@ overflow_add-entries c = omega (arith, group_few _ c.requires)
 
 pub returns-then-entries-room : goal.returns-then-entries-room
 returns-then-entries-room c =
-    let s = c in
-    sym (le-leb (length (group_bytes s.args.entries.now)) s.args.room (omega (arith, group_by_words _ s.requires, c.if-entries-room.true)))
+    sym (le-leb (length (group_bytes c.args.entries.now)) c.args.room (omega (arith, group_by_words _ c.requires, c.if-entries-room.true)))
 
 pub returns : goal.returns
 returns c = ap (λ n. leb n c.args.room) c.group_len.ensures

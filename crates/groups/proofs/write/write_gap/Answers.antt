@@ -20,10 +20,9 @@ pub overflow_add-result-then-n-lt16384 : goal.overflow_add-result-then-n-lt16384
 overflow_add-result-then-n-lt16384 c = omega (arith, bit_small (leb 128 c.args.n))
 
 pub returns-then-n-lt16384 : goal.returns-then-n-lt16384
-returns-then-n-lt16384 c = let s = c in short_gap _ _ _ s.requires c.if-n-lt16384.true
+returns-then-n-lt16384 c = short_gap _ _ _ c.requires c.if-n-lt16384.true
 
 pub returns : goal.returns
 returns c =
-    let s = c in
     let w = c.write_leb.ensures in
-    long_gap _ _ _ s.requires _ _ w.0 w.1
+    long_gap _ _ _ c.requires _ _ w.0 w.1

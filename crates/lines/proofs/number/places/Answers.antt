@@ -14,22 +14,22 @@ pub loop-rest-preserved : goal.loop-rest-preserved
 loop-rest-preserved c = omega (arith, four_more c.loop-rest.rest c.loop-rest-test.true c.loop-rest.invariant.1)
 
 pub returns-then-rest-lt10 : goal.returns-then-rest-lt10
-returns-then-rest-lt10 c = let a = c in omega (arith, one_digit a.loop-rest.rest c.if-rest-lt10.true, digits_length a.args.n)
+returns-then-rest-lt10 c = omega (arith, one_digit c.loop-rest.rest c.if-rest-lt10.true, digits_length c.args.n)
 
 pub overflow_add-result : goal.overflow_add-result
-overflow_add-result c = let a = c in omega (arith, digits_length a.args.n)
+overflow_add-result c = omega (arith, digits_length c.args.n)
 
 pub returns-then-rest-lt100 : goal.returns-then-rest-lt100
-returns-then-rest-lt100 c = let a = c in omega (arith, two_digits a.loop-rest.rest c.if-rest-lt10.false c.if-rest-lt100.true, digits_length a.args.n)
+returns-then-rest-lt100 c = omega (arith, two_digits c.loop-rest.rest c.if-rest-lt10.false c.if-rest-lt100.true, digits_length c.args.n)
 
 pub overflow_add-result-then-rest-lt1000 : goal.overflow_add-result-then-rest-lt1000
-overflow_add-result-then-rest-lt1000 c = let a = c in omega (arith, digits_length a.args.n)
+overflow_add-result-then-rest-lt1000 c = omega (arith, digits_length c.args.n)
 
 pub returns-then-rest-lt1000 : goal.returns-then-rest-lt1000
-returns-then-rest-lt1000 c = let a = c in omega (arith, three_digits a.loop-rest.rest c.if-rest-lt100.false c.if-rest-lt1000.true, digits_length a.args.n)
+returns-then-rest-lt1000 c = omega (arith, three_digits c.loop-rest.rest c.if-rest-lt100.false c.if-rest-lt1000.true, digits_length c.args.n)
 
 pub overflow_add-result-2 : goal.overflow_add-result-2
-overflow_add-result-2 c = let a = c in omega (arith, digits_length a.args.n)
+overflow_add-result-2 c = omega (arith, digits_length c.args.n)
 
 pub returns : goal.returns
-returns c = let a = c in omega (arith, four_digits a.loop-rest.rest c.if-rest-lt1000.false c.loop-rest-test.false, digits_length a.args.n)
+returns c = omega (arith, four_digits c.loop-rest.rest c.if-rest-lt1000.false c.loop-rest-test.false, digits_length c.args.n)

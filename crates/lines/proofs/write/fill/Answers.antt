@@ -9,6 +9,5 @@ pub lay-requires : goal.lay-requires
 lay-requires c = may_lay _ _ _ _ _ _ c.check_line.ensures c.if-check_line-ne0.false
 
 pub returns : goal.returns
-returns c = let d = c in
-    let w = c.lay in
-    filled_line _ _ _ _ _ _ _ _ d.check_line.ensures d.if-check_line-ne0.false w.ensures.0 w.ensures.1
+returns c = let w = c.lay in
+    filled_line _ _ _ _ _ _ _ _ c.check_line.ensures c.if-check_line-ne0.false w.ensures.0 w.ensures.1
