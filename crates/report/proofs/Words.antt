@@ -6,9 +6,6 @@ use mathlib.Core.Path.{◌≡◌, refl, sym, ap, ◌∙◌}
 use mathlib.Core.Bool.{Bool, true, false, cond}
 use mathlib.Core.List.{List, [], ◌∷◌, ◌++◌, append_assoc}
 use lib.ListN.{length}
-use types.Run.{OneOf, miss}
-use denote.Enum.Declared.{tag_of}
-use Rattle.rules.specs.contracts.Step as Q
 use Rattle.rules.specs.declared.Counts.{Counts}
 use Rattle.rules.specs.declared.Answer.{Answer}
 use Rattle.rules.specs.declared.Step.{Step}
@@ -65,18 +62,18 @@ unfolding accepted_line numbers
 asked_by r n step k e m h q = accepted_by r n step m h ∙ ap (λ (x : Step). accepted_line n x m) q
 
 -- every kind but the third says nothing
-not_query : (n : ℕ) (step : Step) (m : ℕ) → OneOf (0 ∷ 1 ∷ 3 ∷ 4 ∷ 5 ∷ 6 ∷ 7 ∷ []) (tag_of Q.the_type step) → accepted_line n step m ≡ []
+not_query : (n : ℕ) (step : Step) (m : ℕ) → ((k e : ℕ) → step ≡ Query k e → ⊥) → accepted_line n step m ≡ []
 unfolding accepted_line numbers
 not_query n (Add k e) m h = refl
 not_query n (Remove k e) m h = refl
-not_query n (Query k e) m h = absurd (miss (0 ∷ 1 ∷ 3 ∷ 4 ∷ 5 ∷ 6 ∷ 7 ∷ []) 2 tt h)
+not_query n (Query k e) m h = absurd (h k e refl)
 not_query n (Send f t e) m h = refl
 not_query n (Merge f t) m h = refl
 not_query n (Deliver i) m h = refl
 not_query n (Again i) m h = refl
 not_query n (Lose i) m h = refl
 
-pub silent_by : (r n : ℕ) (step : Step) (m : ℕ) → r ≡ 0 → OneOf (0 ∷ 1 ∷ 3 ∷ 4 ∷ 5 ∷ 6 ∷ 7 ∷ []) (tag_of Q.the_type step) → line_by r n step m ≡ []
+pub silent_by : (r n : ℕ) (step : Step) (m : ℕ) → r ≡ 0 → ((k e : ℕ) → step ≡ Query k e → ⊥) → line_by r n step m ≡ []
 silent_by r n step m h o = accepted_by r n step m h ∙ not_query n step m o
 
 -- ---- a line, by what was read of it

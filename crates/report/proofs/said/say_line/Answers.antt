@@ -1,7 +1,6 @@
 -- `report::said::say_line`: written, or measured.
 use native.Mathlib.Omega.{arith}
 use Rattle.report.proofs.Saying.{said_laid, said_empty}
-use borrow.Author.Rules.{rules}
 use Rattle.report.proofs.said.say_line.Goals as goal
 
 pub write_said-requires : goal.write_said-requires

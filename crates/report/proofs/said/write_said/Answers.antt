@@ -2,7 +2,6 @@
 use mathlib.Core.Path.{sym}
 use Rattle.report.proofs.Left.{room_as, laid_as, laid_nothing}
 use Rattle.report.proofs.Words.{refused_by, asked_by, silent_by}
-use borrow.Author.Rules.{rules}
 use Rattle.report.proofs.said.write_said.Goals as goal
 
 pub write_refused-requires : goal.write_refused-requires
@@ -15,7 +14,7 @@ returns-then-answer-ne0 c = let s = c.args in
 
 pub returns-in_default : goal.returns-in_default
 returns-in_default c = let s = c.args in
-    laid_nothing (silent_by s.answer.refusal s.line s.step s.answer.value c.if-answer-ne0.false c.in_default.keys2)
+    laid_nothing (silent_by s.answer.refusal s.line s.step s.answer.value c.if-answer-ne0.false c.in_default.not-Query)
 
 pub write_query-requires : goal.write_query-requires
 write_query-requires c = let s = c.args in
