@@ -86,10 +86,11 @@ pub loop-site-preserved : goal.loop-site-preserved
 loop-site-preserved c =
     let a = c.args in
     let l = c.loop-site in
-    let said = c.join_in-entries.ensures.0 c.if-places-entries.false in
+    let few : c.join_in-entries.result ≤ a.run.capacity = omega arith in
+    let said = c.join_in-entries.ensures.0 few in
     record {
       so_far = rw said.1 (gather_more a.run a.words.now c.requires.ready c.requires.le_sites l.site _ l.invariant.so_far c.loop-site-test.true);
-      few = c.if-places-entries.false;
+      few = few;
       near_wide = c.join_in-entries.auto.near ∙ l.invariant.near_wide;
       far_wide = c.join_in-entries.auto.far ∙ l.invariant.far_wide;
     }

@@ -1,10 +1,8 @@
 -- `rounds::union::walk`. Kept by the loop: what is laid and what those that are left come to is the whole.
 use Prim.Native.Nat.{◌-◌}
-use native.Mathlib.Omega.{arith}
-use mathlib.Core.Path.{◌≡◌, refl, ◌∙◌}
+use mathlib.Core.Path.{◌≡◌}
 use lib.ListN.{length}
 use Rattle.rounds.specs.Unions.{Laid}
-use Rattle.rounds.proofs.Walking.{laid_start, goes_on, ends}
 use Rattle.rounds.proofs.union.walk.Given as goal
 
 abbrev pub invariant-loop-i : goal.invariant-loop-i
