@@ -2,7 +2,6 @@ pub mod Gathering
 pub mod Handing
 pub mod Joining
 pub mod Levelling
-pub mod OnRepair
 pub mod Outcomes
 pub mod Repairing
 pub mod Uniting
