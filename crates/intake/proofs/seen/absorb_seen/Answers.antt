@@ -20,71 +20,77 @@ use Rattle.intake.proofs.seen.absorb_seen.Goals as goal
 
 pub returns-then-judged-ne0 : goal.returns-then-judged-ne0
 returns-then-judged-ne0 c =
-    let j = c in
     let a = c.args in
-    let said = judged_out a.run a.words.now a.site a.bytes.now ((let a = c.args in seen_as a.scan no_parcel a.slots a.books)) j.judge_seen-judged.result j.judge_seen-judged.ensures c.if-judged-ne0.true in
+    let s = seen_as a.scan no_parcel a.slots a.books in
+    let said = judged_out a.run a.words.now a.site a.bytes.now s c.judge_seen-judged.result c.judge_seen-judged.ensures c.if-judged-ne0.true in
     (c.refuse.ensures ∙ said.0, said.1)
 
 pub returns-then-run-site : goal.returns-then-run-site
 returns-then-run-site c =
-    let fine : judgement c.args.run c.args.words.now ((let a = c.args in seen_as a.scan no_parcel a.slots a.books)) ≡ 0 = sym c.judge_seen-judged.ensures ∙ c.if-judged-ne0.false in
-    let e = c in
     let a = c.args in
-    let said = outside_out a.run a.words.now a.site a.bytes.now ((let a = c.args in seen_as a.scan no_parcel a.slots a.books)) (fine) c.if-run-site.true in
+    let s = seen_as a.scan no_parcel a.slots a.books in
+    let fine : judgement a.run a.words.now s ≡ 0 = sym c.judge_seen-judged.ensures ∙ c.if-judged-ne0.false in
+    let said = outside_out a.run a.words.now a.site a.bytes.now s fine c.if-run-site.true in
     (c.refuse-then-run-site.ensures ∙ said.0, said.1)
 
 pub returns-then-told-ne0 : goal.returns-then-told-ne0
 returns-then-told-ne0 c =
-    let fine : judgement c.args.run c.args.words.now ((let a = c.args in seen_as a.scan no_parcel a.slots a.books)) ≡ 0 = sym c.judge_seen-judged.ensures ∙ c.if-judged-ne0.false in
-    let d = c in
     let a = c.args in
-    let none = no_group_law a.bytes.now _ _ d.read_group-told.result refl d.read_group-told.ensures c.if-told-ne0.true in
-    let said = none_out a.run a.words.now a.site a.bytes.now ((let a = c.args in seen_as a.scan no_parcel a.slots a.books)) (fine) d.if-run-site.false none.0 in
+    let s = seen_as a.scan no_parcel a.slots a.books in
+    let fine : judgement a.run a.words.now s ≡ 0 = sym c.judge_seen-judged.ensures ∙ c.if-judged-ne0.false in
+    let none = no_group_law a.bytes.now _ _ c.read_group-told.result refl c.read_group-told.ensures c.if-told-ne0.true in
+    let said = none_out a.run a.words.now a.site a.bytes.now s fine c.if-run-site.false none.0 in
     (c.refuse-then-told-ne0.ensures ∙ ap refused_answer none.1 ∙ said.0, said.1)
 
 pub part_of-part-requires : goal.part_of-part-requires
 part_of-part-requires c =
-    let fine : judgement c.args.run c.args.words.now ((let a = c.args in seen_as a.scan no_parcel a.slots a.books)) ≡ 0 = sym c.judge_seen-judged.ensures ∙ c.if-judged-ne0.false in
-    let through : Ready c.args.run c.args.words.now = let a = c.args in ready a.run a.words.now a.site a.bytes.now ((let a = c.args in seen_as a.scan no_parcel a.slots a.books)) (fine) in
-    let d = c in
-    (d.if-run-site.false, ((through).sized.few, (through).sized.small))
+    let a = c.args in
+    let s = seen_as a.scan no_parcel a.slots a.books in
+    let fine : judgement a.run a.words.now s ≡ 0 = sym c.judge_seen-judged.ensures ∙ c.if-judged-ne0.false in
+    let through : Ready a.run a.words.now = ready a.run a.words.now a.site a.bytes.now s fine in
+    (c.if-run-site.false, (through.sized.few, through.sized.small))
 
 pub overflow_mul-many : goal.overflow_mul-many
 overflow_mul-many c =
-    let fine : judgement c.args.run c.args.words.now ((let a = c.args in seen_as a.scan no_parcel a.slots a.books)) ≡ 0 = sym c.judge_seen-judged.ensures ∙ c.if-judged-ne0.false in
-    let through : Ready c.args.run c.args.words.now = let a = c.args in ready a.run a.words.now a.site a.bytes.now ((let a = c.args in seen_as a.scan no_parcel a.slots a.books)) (fine) in
-    let fits : c.part_of-part.result.to ≤ length c.args.words.now = let a = c.args in omega (arith, part_end a.run a.words.now (through) a.site c.if-run-site.false, c.part_of-part.ensures.1) in
     let few : 2 * c.read_group-told.result.count ≤ 128 = entries_many _ _ _ c.read_group-told.result refl c.read_group-told.ensures c.if-told-ne0.false in
     record { fits = omega (arith, few) }
 
 pub offset_bounds-words-from : goal.offset_bounds-words-from
 offset_bounds-words-from c =
-    let fine : judgement c.args.run c.args.words.now ((let a = c.args in seen_as a.scan no_parcel a.slots a.books)) ≡ 0 = sym c.judge_seen-judged.ensures ∙ c.if-judged-ne0.false in
-    let through : Ready c.args.run c.args.words.now = let a = c.args in ready a.run a.words.now a.site a.bytes.now ((let a = c.args in seen_as a.scan no_parcel a.slots a.books)) (fine) in
-    let fits : c.part_of-part.result.to ≤ length c.args.words.now = let a = c.args in omega (arith, part_end a.run a.words.now (through) a.site c.if-run-site.false, c.part_of-part.ensures.1) in
-    let short : length c.args.words.now ≤ 65536 = let sized = (through).sized in rw sized.long (few_words c.args.run.sites c.args.run.capacity sized.few sized.small) in
-    let p = c in omega (arith, fits, short, p.part_of-part.ensures)
+    let a = c.args in
+    let s = seen_as a.scan no_parcel a.slots a.books in
+    let fine : judgement a.run a.words.now s ≡ 0 = sym c.judge_seen-judged.ensures ∙ c.if-judged-ne0.false in
+    let through : Ready a.run a.words.now = ready a.run a.words.now a.site a.bytes.now s fine in
+    let fits : c.part_of-part.result.to ≤ length a.words.now = omega (arith, part_end a.run a.words.now through a.site c.if-run-site.false, c.part_of-part.ensures.1) in
+    let short : length a.words.now ≤ 65536 = let sized = through.sized in rw sized.long (few_words a.run.sites a.run.capacity sized.few sized.small) in
+    omega (arith, fits, short, c.part_of-part.ensures)
 
 pub slice_bounds-merge-count : goal.slice_bounds-merge-count
 slice_bounds-merge-count c =
-    let fine : judgement c.args.run c.args.words.now ((let a = c.args in seen_as a.scan no_parcel a.slots a.books)) ≡ 0 = sym c.judge_seen-judged.ensures ∙ c.if-judged-ne0.false in
-    let through : Ready c.args.run c.args.words.now = let a = c.args in ready a.run a.words.now a.site a.bytes.now ((let a = c.args in seen_as a.scan no_parcel a.slots a.books)) (fine) in
-    let fits : c.part_of-part.result.to ≤ length c.args.words.now = let a = c.args in omega (arith, part_end a.run a.words.now (through) a.site c.if-run-site.false, c.part_of-part.ensures.1) in
-    let p = c in omega (arith, fits, p.part_of-part.ensures)
+    let a = c.args in
+    let s = seen_as a.scan no_parcel a.slots a.books in
+    let fine : judgement a.run a.words.now s ≡ 0 = sym c.judge_seen-judged.ensures ∙ c.if-judged-ne0.false in
+    let through : Ready a.run a.words.now = ready a.run a.words.now a.site a.bytes.now s fine in
+    let fits : c.part_of-part.result.to ≤ length a.words.now = omega (arith, part_end a.run a.words.now through a.site c.if-run-site.false, c.part_of-part.ensures.1) in
+    omega (arith, fits, c.part_of-part.ensures)
 
 pub slice_bounds-merge-start : goal.slice_bounds-merge-start
 slice_bounds-merge-start c =
-    let fine : judgement c.args.run c.args.words.now ((let a = c.args in seen_as a.scan no_parcel a.slots a.books)) ≡ 0 = sym c.judge_seen-judged.ensures ∙ c.if-judged-ne0.false in
-    let through : Ready c.args.run c.args.words.now = let a = c.args in ready a.run a.words.now a.site a.bytes.now ((let a = c.args in seen_as a.scan no_parcel a.slots a.books)) (fine) in
-    let fits : c.part_of-part.result.to ≤ length c.args.words.now = let a = c.args in omega (arith, part_end a.run a.words.now (through) a.site c.if-run-site.false, c.part_of-part.ensures.1) in
-    let p = c in omega (arith, fits, p.part_of-part.ensures)
+    let a = c.args in
+    let s = seen_as a.scan no_parcel a.slots a.books in
+    let fine : judgement a.run a.words.now s ≡ 0 = sym c.judge_seen-judged.ensures ∙ c.if-judged-ne0.false in
+    let through : Ready a.run a.words.now = ready a.run a.words.now a.site a.bytes.now s fine in
+    let fits : c.part_of-part.result.to ≤ length a.words.now = omega (arith, part_end a.run a.words.now through a.site c.if-run-site.false, c.part_of-part.ensures.1) in
+    omega (arith, fits, c.part_of-part.ensures)
 
 pub slice_bounds-merge-end : goal.slice_bounds-merge-end
 slice_bounds-merge-end c =
-    let fine : judgement c.args.run c.args.words.now ((let a = c.args in seen_as a.scan no_parcel a.slots a.books)) ≡ 0 = sym c.judge_seen-judged.ensures ∙ c.if-judged-ne0.false in
-    let through : Ready c.args.run c.args.words.now = let a = c.args in ready a.run a.words.now a.site a.bytes.now ((let a = c.args in seen_as a.scan no_parcel a.slots a.books)) (fine) in
-    let fits : c.part_of-part.result.to ≤ length c.args.words.now = let a = c.args in omega (arith, part_end a.run a.words.now (through) a.site c.if-run-site.false, c.part_of-part.ensures.1) in
-    let p = c in omega (arith, fits, p.part_of-part.ensures)
+    let a = c.args in
+    let s = seen_as a.scan no_parcel a.slots a.books in
+    let fine : judgement a.run a.words.now s ≡ 0 = sym c.judge_seen-judged.ensures ∙ c.if-judged-ne0.false in
+    let through : Ready a.run a.words.now = ready a.run a.words.now a.site a.bytes.now s fine in
+    let fits : c.part_of-part.result.to ≤ length a.words.now = omega (arith, part_end a.run a.words.now through a.site c.if-run-site.false, c.part_of-part.ensures.1) in
+    omega (arith, fits, c.part_of-part.ensures)
 
 pub slice_bounds-group-end : goal.slice_bounds-group-end
 slice_bounds-group-end c =
@@ -98,27 +104,25 @@ slice_bounds-merge-end-2 c =
 
 pub merge-requires : goal.merge-requires
 merge-requires c =
-    let fine : judgement c.args.run c.args.words.now ((let a = c.args in seen_as a.scan no_parcel a.slots a.books)) ≡ 0 = sym c.judge_seen-judged.ensures ∙ c.if-judged-ne0.false in
-    let through : Ready c.args.run c.args.words.now = let a = c.args in ready a.run a.words.now a.site a.bytes.now ((let a = c.args in seen_as a.scan no_parcel a.slots a.books)) (fine) in
-    let front : take (2 * c.read_group-told.result.count) c.read_group-told.new.entries ≡ entries_in c.args.bytes.now = entries_front _ _ _ c.read_group-told.result refl c.read_group-told.ensures c.if-told-ne0.false in
-    let p = c in
-    let d = c in
-    let a = c.args in record {
-      sound_table = rw (part_is a.run a.words.now a.site _ _ p.part_of-part.ensures.0 p.part_of-part.ensures.1) (site_sound a.run a.words.now (through) a.site d.if-run-site.false);
-      sound_table_2 = rw (front) (entries_sound a.bytes.now);
+    let a = c.args in
+    let s = seen_as a.scan no_parcel a.slots a.books in
+    let fine : judgement a.run a.words.now s ≡ 0 = sym c.judge_seen-judged.ensures ∙ c.if-judged-ne0.false in
+    let through : Ready a.run a.words.now = ready a.run a.words.now a.site a.bytes.now s fine in
+    let front : take (2 * c.read_group-told.result.count) c.read_group-told.new.entries ≡ entries_in a.bytes.now = entries_front _ _ _ c.read_group-told.result refl c.read_group-told.ensures c.if-told-ne0.false in
+    record {
+      sound_table = rw (part_is a.run a.words.now a.site _ _ c.part_of-part.ensures.0 c.part_of-part.ensures.1) (site_sound a.run a.words.now through a.site c.if-run-site.false);
+      sound_table_2 = rw front (entries_sound a.bytes.now);
     }
 
 pub returns : goal.returns
 returns c =
-    let fine : judgement c.args.run c.args.words.now ((let a = c.args in seen_as a.scan no_parcel a.slots a.books)) ≡ 0 = sym c.judge_seen-judged.ensures ∙ c.if-judged-ne0.false in
-    let some : forms_none c.args.bytes.now ≡ false = is_group_law _ _ _ c.read_group-told.result refl c.read_group-told.ensures c.if-told-ne0.false in
-    let front : take (2 * c.read_group-told.result.count) c.read_group-told.new.entries ≡ entries_in c.args.bytes.now = entries_front _ _ _ c.read_group-told.result refl c.read_group-told.ensures c.if-told-ne0.false in
-    let m = c in
-    let p = m in
-    let d = c in
     let a = c.args in
-    let es = take (2 * d.read_group-told.result.count) d.read_group-told.new.entries in
-    let done = taken a.run a.words.now a.site a.bytes.now ((let a = c.args in seen_as a.scan no_parcel a.slots a.books)) (fine) d.if-run-site.false (some) es (front) in
-    let said = told_of a.run a.words.now a.site _ _ p.part_of-part.ensures.0 p.part_of-part.ensures.1 (λ (t : List ℕ). merge_answer t es) m.merge.ensures.value in
-    let left = put_of a.run a.words.now a.site _ _ p.part_of-part.ensures.0 p.part_of-part.ensures.1 (λ (t : List ℕ). merge_table t es) m.merge.ensures.table_after in
+    let s = seen_as a.scan no_parcel a.slots a.books in
+    let fine : judgement a.run a.words.now s ≡ 0 = sym c.judge_seen-judged.ensures ∙ c.if-judged-ne0.false in
+    let some : forms_none a.bytes.now ≡ false = is_group_law _ _ _ c.read_group-told.result refl c.read_group-told.ensures c.if-told-ne0.false in
+    let front : take (2 * c.read_group-told.result.count) c.read_group-told.new.entries ≡ entries_in a.bytes.now = entries_front _ _ _ c.read_group-told.result refl c.read_group-told.ensures c.if-told-ne0.false in
+    let es = take (2 * c.read_group-told.result.count) c.read_group-told.new.entries in
+    let done = taken a.run a.words.now a.site a.bytes.now s fine c.if-run-site.false some es front in
+    let said = told_of a.run a.words.now a.site _ _ c.part_of-part.ensures.0 c.part_of-part.ensures.1 (λ (t : List ℕ). merge_answer t es) c.merge.ensures.value in
+    let left = put_of a.run a.words.now a.site _ _ c.part_of-part.ensures.0 c.part_of-part.ensures.1 (λ (t : List ℕ). merge_table t es) c.merge.ensures.table_after in
     (said ∙ done.0, left ∙ done.1)
