@@ -1,5 +1,4 @@
 -- A group's bytes absorbed, once the judge has spoken: its refusals at known tests, and what the table's answer makes of it.
--- Assumes nothing.
 use Prim.Native.Nat.{ℕ, zero, suc, ◌*◌, ◌≤◌, ◌<◌}
 use native.Mathlib.Omega.{arith}
 use mathlib.Core.Bool.{Bool, true, false, cond}

@@ -1,5 +1,4 @@
 -- From what the callees of `absorb` ensure to what `absorb` ensures. The callees' results are variables here, each with what its contract says of it.
--- Assumes nothing.
 use Prim.Native.Nat.{ℕ, zero, suc}
 use mathlib.Core.Path.{◌≡◌, refl}
 use mathlib.Core.List.{List}

@@ -1,0 +1,128 @@
+-- `intake::seen::absorb_seen`: the judge, its own tests, and the merge into the site's table.
+use Prim.Native.Nat.{ℕ, ◌*◌, ◌≤◌}
+use native.Mathlib.Omega.{arith}
+use mathlib.Core.Bool.{false}
+use mathlib.Core.Path.{◌≡◌, refl, sym, ap, ◌∙◌}
+use mathlib.Core.List.{List}
+use lib.ListN.{length, take}
+use lib.Seq.{length-take-le}
+use Rattle.rules.specs.meaning.Groups.{entries_in, forms_none}
+use Rattle.rules.specs.meaning.Operations.{merge_answer, merge_table}
+use Rattle.rules.specs.meaning.Parcels.{no_parcel}
+use Rattle.rules.proofs.laws.group.Groups.{entries_sound}
+use Rattle.judge.specs.Judged.{seen_as, judgement}
+use Rattle.judge.proofs.Judging.{few_words}
+use Rattle.steps.specs.Verdicts.{Ready}
+use Rattle.steps.proofs.Tables.{part_end, site_sound, part_is, told_of, put_of}
+use Rattle.intake.proofs.Absorbing.{no_group_law, is_group_law, entries_front, entries_within, entries_many, judged_out, ready, outside_out, none_out, taken}
+use Rattle.intake.specs.Values.{refused_answer}
+use Rattle.intake.proofs.seen.absorb_seen.Goals as goal
+
+pub returns-then-judged-ne0 : goal.returns-then-judged-ne0
+returns-then-judged-ne0 c =
+    let a = c.args in
+    let s = seen_as a.scan no_parcel a.slots a.books in
+    let said = judged_out a.run a.words.now a.site a.bytes.now s c.judge_seen-judged.result c.judge_seen-judged.ensures c.if-judged-ne0.true in
+    (c.refuse.ensures ∙ said.0, said.1)
+
+pub returns-then-run-site : goal.returns-then-run-site
+returns-then-run-site c =
+    let a = c.args in
+    let s = seen_as a.scan no_parcel a.slots a.books in
+    let fine : judgement a.run a.words.now s ≡ 0 = sym c.judge_seen-judged.ensures ∙ c.if-judged-ne0.false in
+    let said = outside_out a.run a.words.now a.site a.bytes.now s fine c.if-run-site.true in
+    (c.refuse-then-run-site.ensures ∙ said.0, said.1)
+
+pub returns-then-told-ne0 : goal.returns-then-told-ne0
+returns-then-told-ne0 c =
+    let a = c.args in
+    let s = seen_as a.scan no_parcel a.slots a.books in
+    let fine : judgement a.run a.words.now s ≡ 0 = sym c.judge_seen-judged.ensures ∙ c.if-judged-ne0.false in
+    let none = no_group_law a.bytes.now _ _ c.read_group-told.result refl c.read_group-told.ensures c.if-told-ne0.true in
+    let said = none_out a.run a.words.now a.site a.bytes.now s fine c.if-run-site.false none.0 in
+    (c.refuse-then-told-ne0.ensures ∙ ap refused_answer none.1 ∙ said.0, said.1)
+
+pub part_of-part-requires : goal.part_of-part-requires
+part_of-part-requires c =
+    let a = c.args in
+    let s = seen_as a.scan no_parcel a.slots a.books in
+    let fine : judgement a.run a.words.now s ≡ 0 = sym c.judge_seen-judged.ensures ∙ c.if-judged-ne0.false in
+    let through : Ready a.run a.words.now = ready a.run a.words.now a.site a.bytes.now s fine in
+    (c.if-run-site.false, (through.sized.few, through.sized.small))
+
+pub overflow_mul-many : goal.overflow_mul-many
+overflow_mul-many c =
+    let few : 2 * c.read_group-told.result.count ≤ 128 = entries_many _ _ _ c.read_group-told.result refl c.read_group-told.ensures c.if-told-ne0.false in
+    record { fits = omega (arith, few) }
+
+pub offset_bounds-words-from : goal.offset_bounds-words-from
+offset_bounds-words-from c =
+    let a = c.args in
+    let s = seen_as a.scan no_parcel a.slots a.books in
+    let fine : judgement a.run a.words.now s ≡ 0 = sym c.judge_seen-judged.ensures ∙ c.if-judged-ne0.false in
+    let through : Ready a.run a.words.now = ready a.run a.words.now a.site a.bytes.now s fine in
+    let fits : c.part_of-part.result.to ≤ length a.words.now = omega (arith, part_end a.run a.words.now through a.site c.if-run-site.false, c.part_of-part.ensures.1) in
+    let short : length a.words.now ≤ 65536 = let sized = through.sized in rw sized.long (few_words a.run.sites a.run.capacity sized.few sized.small) in
+    omega (arith, fits, short, c.part_of-part.ensures)
+
+pub slice_bounds-merge-count : goal.slice_bounds-merge-count
+slice_bounds-merge-count c =
+    let a = c.args in
+    let s = seen_as a.scan no_parcel a.slots a.books in
+    let fine : judgement a.run a.words.now s ≡ 0 = sym c.judge_seen-judged.ensures ∙ c.if-judged-ne0.false in
+    let through : Ready a.run a.words.now = ready a.run a.words.now a.site a.bytes.now s fine in
+    let fits : c.part_of-part.result.to ≤ length a.words.now = omega (arith, part_end a.run a.words.now through a.site c.if-run-site.false, c.part_of-part.ensures.1) in
+    omega (arith, fits, c.part_of-part.ensures)
+
+pub slice_bounds-merge-start : goal.slice_bounds-merge-start
+slice_bounds-merge-start c =
+    let a = c.args in
+    let s = seen_as a.scan no_parcel a.slots a.books in
+    let fine : judgement a.run a.words.now s ≡ 0 = sym c.judge_seen-judged.ensures ∙ c.if-judged-ne0.false in
+    let through : Ready a.run a.words.now = ready a.run a.words.now a.site a.bytes.now s fine in
+    let fits : c.part_of-part.result.to ≤ length a.words.now = omega (arith, part_end a.run a.words.now through a.site c.if-run-site.false, c.part_of-part.ensures.1) in
+    omega (arith, fits, c.part_of-part.ensures)
+
+pub slice_bounds-merge-end : goal.slice_bounds-merge-end
+slice_bounds-merge-end c =
+    let a = c.args in
+    let s = seen_as a.scan no_parcel a.slots a.books in
+    let fine : judgement a.run a.words.now s ≡ 0 = sym c.judge_seen-judged.ensures ∙ c.if-judged-ne0.false in
+    let through : Ready a.run a.words.now = ready a.run a.words.now a.site a.bytes.now s fine in
+    let fits : c.part_of-part.result.to ≤ length a.words.now = omega (arith, part_end a.run a.words.now through a.site c.if-run-site.false, c.part_of-part.ensures.1) in
+    omega (arith, fits, c.part_of-part.ensures)
+
+pub slice_bounds-group-end : goal.slice_bounds-group-end
+slice_bounds-group-end c =
+    let within : 2 * c.read_group-told.result.count ≤ length c.read_group-told.new.entries = entries_within _ _ _ c.read_group-told.result refl c.read_group-told.ensures c.if-told-ne0.false in
+    omega (arith, within)
+
+pub slice_bounds-merge-end-2 : goal.slice_bounds-merge-end-2
+slice_bounds-merge-end-2 c =
+    let within : 2 * c.read_group-told.result.count ≤ length c.read_group-told.new.entries = entries_within _ _ _ c.read_group-told.result refl c.read_group-told.ensures c.if-told-ne0.false in
+    sym (length-take-le _ _ (omega (arith, within)))
+
+pub merge-requires : goal.merge-requires
+merge-requires c =
+    let a = c.args in
+    let s = seen_as a.scan no_parcel a.slots a.books in
+    let fine : judgement a.run a.words.now s ≡ 0 = sym c.judge_seen-judged.ensures ∙ c.if-judged-ne0.false in
+    let through : Ready a.run a.words.now = ready a.run a.words.now a.site a.bytes.now s fine in
+    let front : take (2 * c.read_group-told.result.count) c.read_group-told.new.entries ≡ entries_in a.bytes.now = entries_front _ _ _ c.read_group-told.result refl c.read_group-told.ensures c.if-told-ne0.false in
+    record {
+      sound_table = rw (part_is a.run a.words.now a.site _ _ c.part_of-part.ensures.0 c.part_of-part.ensures.1) (site_sound a.run a.words.now through a.site c.if-run-site.false);
+      sound_table_2 = rw front (entries_sound a.bytes.now);
+    }
+
+pub returns : goal.returns
+returns c =
+    let a = c.args in
+    let s = seen_as a.scan no_parcel a.slots a.books in
+    let fine : judgement a.run a.words.now s ≡ 0 = sym c.judge_seen-judged.ensures ∙ c.if-judged-ne0.false in
+    let some : forms_none a.bytes.now ≡ false = is_group_law _ _ _ c.read_group-told.result refl c.read_group-told.ensures c.if-told-ne0.false in
+    let front : take (2 * c.read_group-told.result.count) c.read_group-told.new.entries ≡ entries_in a.bytes.now = entries_front _ _ _ c.read_group-told.result refl c.read_group-told.ensures c.if-told-ne0.false in
+    let es = take (2 * c.read_group-told.result.count) c.read_group-told.new.entries in
+    let done = taken a.run a.words.now a.site a.bytes.now s fine c.if-run-site.false some es front in
+    let said = told_of a.run a.words.now a.site _ _ c.part_of-part.ensures.0 c.part_of-part.ensures.1 (λ (t : List ℕ). merge_answer t es) c.merge.ensures.value in
+    let left = put_of a.run a.words.now a.site _ _ c.part_of-part.ensures.0 c.part_of-part.ensures.1 (λ (t : List ℕ). merge_table t es) c.merge.ensures.table_after in
+    (said ∙ done.0, left ∙ done.1)
