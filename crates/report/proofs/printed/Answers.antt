@@ -7,7 +7,6 @@ use Rattle.rules.proofs.laws.report.Fits.{report_fits}
 use Rattle.report.proofs.Left.{laid_by}
 use Rattle.report.proofs.Saying.{laid_fits}
 use Rattle.report.proofs.Answers.{printed_none, printed_over, printed_all}
-use borrow.Author.Rules.{rules}
 use Rattle.report.proofs.printed.Goals as goal
 
 pub returns-then-out-lt-REPORT_MAX : goal.returns-then-out-lt-REPORT_MAX
@@ -22,4 +21,4 @@ say_report-requires c = (omega arith, λ _. omega (arith, report_fits c.args.inp
 pub returns : goal.returns
 returns c = let s = c.args in
     let fits : length (report_of s.input.now) ≤ length s.out.now = omega (arith, report_fits s.input.now (omega arith)) in
-    printed_all s.input.now s.out.now _ _ (omega arith) (omega arith) (laid_fits _ _ _ fits c.say_report.auto.1.0 c.say_report.ensures)
+    printed_all s.input.now s.out.now _ _ (omega arith) (omega arith) (laid_fits _ _ _ fits c.say_report.auto.out c.say_report.ensures)

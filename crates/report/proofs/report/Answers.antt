@@ -7,7 +7,6 @@ use borrow.Author.Tests.{ltb-true, ltb-false}
 use Rattle.rules.specs.meaning.Reports.{report_of}
 use Rattle.report.proofs.Answers.{told_over, told_short, told_done}
 use Rattle.report.proofs.Saying.{laid_fits}
-use borrow.Author.Rules.{rules}
 use Rattle.report.proofs.report.Goals as goal
 
 pub returns-then-input-gt-INPUT_MAX : goal.returns-then-input-gt-INPUT_MAX
@@ -22,4 +21,4 @@ say_report-written-requires c = (omega arith, λ _. ltb-false _ _ (sym c.too_sho
 pub returns : goal.returns
 returns c = let s = c.args in
     let fits : length (report_of s.input.now) ≤ length s.out.now = ltb-false _ _ (sym c.too_short.ensures ∙ c.if-too_short.false) in
-    told_done s.input.now s.out.now _ _ (omega arith) fits (laid_fits _ _ _ fits c.say_report-written.auto.1.0 c.say_report-written.ensures)
+    told_done s.input.now s.out.now _ _ (omega arith) fits (laid_fits _ _ _ fits c.say_report-written.auto.out c.say_report-written.ensures)

@@ -6,7 +6,6 @@ use lib.Dec.{ltb}
 use borrow.Author.Tests.{le-ltb}
 use Rattle.rules.specs.meaning.Reports.{report_of}
 use Rattle.rules.proofs.laws.report.Fits.{report_fits}
-use borrow.Author.Rules.{rules}
 use Rattle.report.proofs.too_short.Goals as goal
 
 pub returns-then-room-input : goal.returns-then-room-input

@@ -1,7 +1,6 @@
 -- `report::ends::say_ending`: written, or measured.
 use native.Mathlib.Omega.{arith}
 use Rattle.report.proofs.Saying.{said_laid, said_empty}
-use borrow.Author.Rules.{rules}
 use Rattle.report.proofs.ends.say_ending.Goals as goal
 
 pub write_ending-requires : goal.write_ending-requires

@@ -2,7 +2,6 @@
 use Rattle.rules.specs.meaning.Reports.{ledger_lines, site_lines, ending}
 use Rattle.report.proofs.Left.{left_all, left_room, left_next, left_fits, left_as, laid_last}
 use Rattle.report.proofs.Counted.{end_pieces}
-use borrow.Author.Rules.{rules}
 use Rattle.report.proofs.ends.write_ending.Goals as goal
 
 pub write_ledger-next-requires : goal.write_ledger-next-requires

@@ -1,14 +1,14 @@
 -- `report::ends::write_sites`. Invariant: the lines of the sites from k on are what is left.
 use native.Mathlib.Omega.{arith}
-use mathlib.Core.Path.{◌≡◌, refl}
+use mathlib.Core.Path.{refl}
 use mathlib.Core.List.{List, ◌++◌}
 use Prim.Native.Nat.{ℕ, ◌+◌, ◌-◌, ◌≤◌, ◌<◌}
 use lib.ListN.{length}
 use Rattle.rules.specs.meaning.Put.{put}
 use Rattle.rules.specs.meaning.Reports.{site_line, site_lines}
-use Rattle.report.specs.Tables.{ThreeTables}
 use Rattle.report.proofs.Left.{Left, left_all, left_room, left_next, left_as, laid_none}
 use Rattle.report.proofs.Counted.{part_of, part_is, sites_from, sites_end}
+use Rattle.report.specs.Laid.{Laid}
 use Rattle.report.proofs.ends.write_sites.Goals as goal
 
 -- ---- the lines that are left, in a turn of the loop: this site's, and the others
