@@ -1,4 +1,1 @@
-pub mod Handed
-pub mod OnFresh
-pub mod OnStep
 pub mod Outcomes

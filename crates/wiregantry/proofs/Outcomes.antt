@@ -1,6 +1,6 @@
--- What a call by four numbers comes to, from what the numbers name. Assumes nothing.
+-- What a call by four numbers comes to, from what the numbers name.
 use Prim.Native.Nat.{ℕ}
-use mathlib.Core.Path.{◌≡◌, refl, sym, ap, ◌∙◌}
+use mathlib.Core.Path.{◌≡◌, sym, ap, ◌∙◌}
 use Rattle.rules.specs.declared.Answer.{Answer}
 use Rattle.rules.specs.declared.Run.{Run}
 use Rattle.rules.specs.declared.Step.{Step}
@@ -10,11 +10,6 @@ use Rattle.rules.specs.meaning.States.{State}
 use Rattle.rules.specs.meaning.Runs.{Stepped}
 use Rattle.rules.specs.meaning.StepLines.{step_for}
 use Rattle.rules.specs.meaning.Calls.{Called, named_answer, named_after}
-
--- the two cases of what is named, each with its equation: nothing that is known of n is lost
-pub by_name : {X : Type 1} (n : Named) → ((s : Step) → n ≡ Is s → X) → (n ≡ NoStep → X) → X
-by_name (Is s) is none = is s refl
-by_name NoStep is none = none refl
 
 module _ (run : Run) (before : State) (kind first second id : ℕ) where
   -- refused with 11, and nothing changes
