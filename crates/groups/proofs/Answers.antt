@@ -1,4 +1,4 @@
--- What the writer and the reader answer, refusal by refusal. Assumes nothing.
+-- What the writer and the reader answer, refusal by refusal.
 use mathlib.Core.Path.{◌≡◌, sym, ap, ◌∙◌}
 use mathlib.Core.Bool.{true, false}
 use mathlib.Core.List.{List}

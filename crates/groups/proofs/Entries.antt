@@ -1,5 +1,5 @@
--- One entry of a group, read: two numbers, one behind the other, and the tests of what they come to. Assumes nothing.
-use mathlib.Core.Path.{◌≡◌, refl, sym, ap, ◌∙◌}
+-- One entry of a group, read: two numbers, one behind the other, and the tests of what they come to.
+use mathlib.Core.Path.{◌≡◌, refl, ap, ◌∙◌}
 use mathlib.Core.Bool.{Bool, true, false, ◌&&◌}
 use mathlib.Core.List.{List}
 use Prim.Native.Nat.{ℕ, suc, ◌+◌, ◌-◌, ◌^◌, ◌≤◌, ◌<◌}
@@ -7,11 +7,10 @@ use native.Mathlib.Omega.{arith}
 use native.Mathlib.Numerals.{add-one}
 use borrow.Author.Tests.{lt-ltb, le-ltb}
 use lib.Dec.{ltb}
-use lib.ListN.{length, drop}
 use Rattle.rules.specs.declared.Piece.{Piece}
 use Rattle.rules.specs.declared.Piece.TheVariants.{Read, Refused}
 use Rattle.rules.specs.meaning.Lengths.{M}
-use Rattle.rules.specs.meaning.Groups.{no_group, entries_from}
+use Rattle.rules.specs.meaning.Groups.{entries_from}
 use Rattle.leb.specs.Places.{leb_at, leb_says, leb_says_none}
 use Rattle.groups.specs.declared.entry.Entry.TheVariants.{Taken, NoEntry}
 use Rattle.groups.specs.declared.entry.Two.{Two}

@@ -1,4 +1,4 @@
--- A gap's bytes, with something to come behind them. Assumes nothing.
+-- A gap's bytes, with something to come behind them.
 use mathlib.Core.Path.{◌≡◌, ap, ◌∙◌}
 use mathlib.Core.List.{List, [], ◌∷◌}
 use Prim.Native.Nat.{ℕ, suc, ◌+◌, ◌*◌, ◌/◌, ◌%◌, ◌≤◌, ◌<◌}

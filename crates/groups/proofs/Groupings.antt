@@ -1,4 +1,4 @@
--- The group of some bytes, by its count. Assumes nothing.
+-- The group of some bytes, by its count.
 use mathlib.Core.Path.{◌≡◌, refl, sym, ap, ◌∙◌}
 use mathlib.Core.Bool.{Bool, true, false, false≢true}
 use mathlib.Core.List.{List, [], ◌∷◌, ◌++◌}

@@ -1,4 +1,4 @@
--- Words judged entry by entry, and when they are no group before any is looked at. Assumes nothing.
+-- Words judged entry by entry, and when they are no group before any is looked at.
 use mathlib.Core.Path.{◌≡◌, refl, sym, ap, ◌∙◌}
 use mathlib.Core.Bool.{Bool, true, false, ◌&&◌, not}
 use mathlib.Core.List.{List, [], ◌∷◌}

@@ -1,7 +1,7 @@
--- A group laid entry by entry: how many bytes are left to be laid, and what the buffer is with them. Assumes nothing.
+-- A group laid entry by entry: how many bytes are left to be laid, and what the buffer is with them.
 use mathlib.Core.Path.{◌≡◌, refl, sym, ap, ◌∙◌}
 use mathlib.Core.List.{List, [], ◌∷◌, ◌++◌}
-use Prim.Native.Nat.{ℕ, suc, ◌+◌, ◌-◌, ◌*◌, ◌/◌, ◌≤◌, ◌<◌}
+use Prim.Native.Nat.{ℕ, zero, suc, ◌+◌, ◌-◌, ◌*◌, ◌/◌, ◌≤◌, ◌<◌}
 use native.Mathlib.Omega.{arith}
 use native.Mathlib.Numerals.{add-one}
 use lib.Dec.{leb}
@@ -41,6 +41,8 @@ entry_at es lo i r h = go (drop i es) refl r
   where
     go : (l : List ℕ) → drop i es ≡ l → Rising lo l → Entry es lo i
     go [] q done = absurd (omega (arith, length-drop i es, ap length q))
+    go (e ∷ []) q r = elim r [ ]
+    go (e ∷ zero ∷ fs) q r = elim r [ ]
     go (e ∷ suc n ∷ fs) q (entry l k m next) =
         let z : i + 0 ≡ i = omega arith in
         let ee : get_or es i 0 ≡ e = ap (λ (j : ℕ). get_or es j 0) (sym z) ∙ sym (get_or-drop i es 0 0) ∙ ap (λ t. get_or t 0 0) q in

@@ -1,4 +1,4 @@
--- A start that may not be wanted, as the code does it with no branch over the loop: the counts emptied or as they are, and the links begun of all sites or of none. That is `startedIf`.
+-- A start that may not be wanted, as the code does it with no branch over the loop: the counts emptied or as they are, and the links begun of all sites or of none. That is `started_if`.
 -- Assumes nothing.
 use Rattle.std.specs.Prelude.{ℕ, ◌≡◌, refl, Bool, true, false, cond}
 use Rattle.rules.specs.declared.Ledger.{Ledger}

@@ -1,6 +1,6 @@
 // The ledger: the counts, and an entry for each link of a run. What each means is said in `specs/` of the crate `rules`.
 // Here the ledger is lent: it is looked into, stored to and passed on, and no function copies the entries. What is decided is decided by value,
-// in the crates `counts` and `links`, where no proof by hand is needed.
+// in the crates `counts` and `links`.
 #![tactic(auto)]
 
 ghost use Rattle.std.specs.Prelude.{◌≡◌, get_or};
@@ -10,14 +10,15 @@ ghost use Rattle.rules.specs.meaning.Ledgers.{seen_of, booked_ledger, started_if
 
 use counts::{emptied, raised};
 use links::{first_link, next_link, pair_sound, sites_of, sites_to_start, start_pair};
-use rules::{ENTRIES, Ledger, Pair, Seen};
+use rules::{Ledger, Pair, Seen};
 
 // The entry of a link. Past the last one there is none, and nothing is read.
 fn read_pair(ledger: &Ledger, link: usize) -> Pair
     ensures { result ≡ get_or ledger.now.pairs link no_pair }
 {
-    if link < ENTRIES {
-        ledger.pairs[link]
+    let pairs: &[Pair] = &ledger.pairs;
+    if link < pairs.len() {
+        pairs[link]
     } else {
         Pair {
             next: 0,
@@ -67,8 +68,9 @@ pub fn book(ledger: &mut Ledger, counter: u64, link: usize, pair: Pair)
     let before = ledger.counts;
     let after = raised(before, counter);
     ledger.counts = after;
-    if link < ENTRIES {
-        ledger.pairs[link] = pair;
+    let pairs: &mut [Pair] = &mut ledger.pairs;
+    if link < pairs.len() {
+        pairs[link] = pair;
     }
 }
 

@@ -1,4 +1,4 @@
--- Numbers in eight bytes each, and the area of 32 bytes that they make. Assumes nothing.
+-- Numbers in eight bytes each, and the area of 32 bytes that they make.
 use mathlib.Core.Path.{◌≡◌}
 use mathlib.Core.List.{List}
 use Prim.Native.Nat.{ℕ, suc, ◌+◌, ◌/◌, ◌%◌, ◌≤◌, ◌<◌}

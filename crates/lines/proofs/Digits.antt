@@ -1,12 +1,11 @@
 -- A run of digits, read turn by turn: one law for a turn of the loop, one for each way out, in the words of the contract.
--- Assumes nothing.
 use mathlib.Core.Path.{◌≡◌, sym, ap, ◌∙◌}
-use mathlib.Core.Bool.{Bool, true, false, not}
+use mathlib.Core.Bool.{Bool, true, false}
 use mathlib.Core.List.{List}
 use Prim.Native.Nat.{ℕ, ◌+◌, ◌-◌, ◌*◌, ◌^◌, ◌≤◌, ◌<◌}
 use native.Mathlib.Omega.{arith}
 use native.Mathlib.Numerals.{add-one}
-use borrow.Author.Tests.{ltb-true, ltb-false, not-true, not-false, lt-ltb, le-ltb}
+use borrow.Author.Tests.{ltb-true, ltb-false, lt-ltb, le-ltb}
 use lib.ListN.{length, get_or, drop, length-drop, drop_of_length-le}
 use lib.Seq.{drop-cons}
 use Rattle.rules.specs.declared.Piece.TheVariants.{Read, Refused}
@@ -20,15 +19,15 @@ unfolding digit_run
 run_turn line v i h s = rw (drop-cons line i 0 h, add-one, lt-ltb (digit_of (get_or line i 0)) 10 s)
 
 -- what the test of a byte tells
-pub digit_says : (c : ℕ) (t : Bool) → t ≡ is_digit c → not t ≡ false → (48 ≤ c) × (c ≤ 57) × (c - 48 ≡ digit_of c) × (digit_of c < 10)
+pub digit_says : (c : ℕ) (t : Bool) → t ≡ is_digit c → t ≡ true → (48 ≤ c) × (c ≤ 57) × (c - 48 ≡ digit_of c) × (digit_of c < 10)
 digit_says c t e h =
-    let y : is_digit c ≡ true = sym e ∙ not-false t h in
+    let y : is_digit c ≡ true = sym e ∙ h in
     let s : digit_of c < 10 = ltb-true (digit_of c) 10 y in
     let is : c ≡ 48 + digit_of c = digit_is c s in
     (omega arith, omega arith, omega arith, s)
 
-pub other_says : (c : ℕ) (t : Bool) → t ≡ is_digit c → not t ≡ true → 10 ≤ digit_of c
-other_says c t e h = ltb-false (digit_of c) 10 (sym e ∙ not-true t h)
+pub other_says : (c : ℕ) (t : Bool) → t ≡ is_digit c → t ≡ false → 10 ≤ digit_of c
+other_says c t e h = ltb-false (digit_of c) 10 (sym e ∙ h)
 
 -- one turn
 pub run_more : (line : List ℕ) (place v i d : ℕ) → i < length line → d ≡ digit_of (get_or line i 0) → d < 10 → digit_run v (drop i line) ≡ digit_run 0 (drop place line) → digit_run (v * 10 + d) (drop (i + 1) line) ≡ digit_run 0 (drop place line)

@@ -1,4 +1,4 @@
--- A further number behind its name: read, counted and put. Assumes nothing.
+-- A further number behind its name: read, counted and put.
 use mathlib.Core.Path.{◌≡◌, refl, sym, ap, ◌∙◌}
 use mathlib.Core.Bool.{Bool, true, false, cond}
 use mathlib.Core.List.{List}

@@ -1,4 +1,4 @@
--- The kind of a line: two of its bytes leave one kind, and then one lead is tried. Assumes nothing.
+-- The kind of a line: two of its bytes leave one kind, and then one lead is tried.
 use mathlib.Core.Path.{◌≡◌, refl, sym, ap, ◌∙◌}
 use mathlib.Core.Bool.{cond}
 use mathlib.Core.List.{List, ◌++◌}

@@ -1,4 +1,4 @@
--- A piece of fixed text, matched byte by byte: one law for a turn of the loop, one for each way out. Assumes nothing.
+-- A piece of fixed text, matched byte by byte: one law for a turn of the loop, one for each way out.
 use mathlib.Core.Path.{◌≡◌, sym, ap, ◌∙◌}
 use mathlib.Core.List.{List}
 use Prim.Native.Nat.{ℕ, ◌+◌, ◌-◌, ◌≤◌, ◌<◌}

@@ -1,4 +1,4 @@
--- A line, from what was read at its places: one law for each way out of the reader. Assumes nothing.
+-- A line, from what was read at its places: one law for each way out of the reader.
 use mathlib.Core.Path.{◌≡◌, sym, ap, ◌∙◌}
 use mathlib.Core.List.{List}
 use Prim.Native.Nat.{ℕ, ◌≤◌, ◌<◌}

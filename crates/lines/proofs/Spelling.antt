@@ -1,4 +1,4 @@
--- Bytes stored one by one: a number from its last digit to its first, a text from its first byte to its last. Assumes nothing.
+-- Bytes stored one by one: a number from its last digit to its first, a text from its first byte to its last.
 use mathlib.Core.Path.{◌≡◌, sym, ap, ◌∙◌}
 use mathlib.Core.List.{List, [], ◌∷◌, ◌++◌, append_assoc}
 use Prim.Native.Nat.{ℕ, suc, ◌+◌, ◌-◌, ◌/◌, ◌%◌, ◌^◌, ◌≤◌, ◌<◌}

@@ -1,4 +1,4 @@
--- Which four numbers name a step, and which step. Assumes nothing.
+-- Which four numbers name a step, and which step.
 use mathlib.Core.Path.{◌≡◌, sym, ap, ◌∙◌}
 use mathlib.Core.Bool.{Bool, true, false, ◌||◌}
 use mathlib.Core.List.{List}

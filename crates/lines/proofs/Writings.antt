@@ -1,4 +1,4 @@
--- A line, written: how long it is, when it may be written, and the buffer that four pieces make. Assumes nothing.
+-- A line, written: how long it is, when it may be written, and the buffer that four pieces make.
 use mathlib.Core.Path.{◌≡◌, sym, ap, ◌∙◌}
 use mathlib.Core.Bool.{Bool, true, false}
 use mathlib.Core.List.{List, ◌++◌, append_assoc}

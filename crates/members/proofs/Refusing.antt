@@ -2,12 +2,11 @@
 -- Assumes nothing.
 use Prim.Native.Nat.{ℕ, zero, suc, ◌≤◌}
 use mathlib.Core.Path.{◌≡◌, refl}
-use mathlib.Core.List.{List, [], ◌∷◌}
+use mathlib.Core.List.{List}
 use lib.ListN.{length}
 use borrow.Author.Tests.{ltb-false, not-false}
 use Rattle.rules.specs.meaning.Table.{SoundTable}
 use Rattle.rules.specs.meaning.Operations.{unless_refused}
-use Rattle.rules.specs.meaning.Refusals.{first_given}
 use Rattle.rules.proofs.laws.run.Steps.{pass}
 use Rattle.rules.specs.meaning.Put.{put}
 use Rattle.rules.specs.meaning.Members.{bytes_for, answers_of, members_refusal, members_after, Answered}

@@ -6,7 +6,7 @@ ghost use Rattle.merging.specs.Walks.{Joining};
 use lengths::join;
 
 // What is left to place: entries of the table, entries of the source, and the place from which on the merged table stands.
-#[derive(Drop)]
+#[derive(Clone, Copy)]
 pub(crate) struct Left {
     pub own: usize,
     pub others: usize,
@@ -14,7 +14,7 @@ pub(crate) struct Left {
 }
 
 // One turn by value: the entry that is placed, how many entries of the table and of the source that takes, and the last ids that are left then.
-#[derive(Drop)]
+#[derive(Clone, Copy)]
 pub(crate) struct Settled {
     pub id: u64,
     pub length: u64,

@@ -1,2 +1,2 @@
-pub mod Calls
-pub mod Slot
+pub mod TurnLaws
+pub mod SearchLaws

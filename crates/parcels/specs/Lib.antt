@@ -1,3 +1,1 @@
 pub mod Turns
-pub mod TurnLaws
-pub mod SearchLaws

@@ -7,7 +7,7 @@ use lines::read_step;
 use rules::{Named, Step};
 
 // The step of a line with 0; or 11, where it names none or is not ended, and a step that is not to be taken. `next` is where the next line begins.
-#[derive(Drop)]
+#[derive(Clone, Copy)]
 pub(crate) struct Ahead {
     pub(crate) refusal: u32,
     pub(crate) step: Step,

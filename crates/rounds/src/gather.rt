@@ -15,7 +15,7 @@ use steps::part_of;
 use table::held;
 
 // So many entries stand in front of a room, the far one or the near one; with more than there are places, they stand nowhere.
-#[derive(Drop)]
+#[derive(Clone, Copy)]
 pub(crate) struct Stand {
     pub entries: usize,
     pub far: bool,

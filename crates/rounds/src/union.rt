@@ -6,7 +6,7 @@ use crate::hand::copy;
 use lengths::join;
 
 // How far the walk has come: the entries passed of the one and of the other, and those that are laid.
-#[derive(Drop)]
+#[derive(Clone, Copy)]
 struct Passed {
     one: usize,
     other: usize,

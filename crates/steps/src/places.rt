@@ -5,7 +5,7 @@ ghost use Rattle.rules.specs.meaning.States.{width};
 use rules::Run;
 
 // From a word up to, not including, a word.
-#[derive(Drop)]
+#[derive(Clone, Copy)]
 pub struct Part {
     pub from: usize,
     pub to: usize,

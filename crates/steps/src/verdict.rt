@@ -7,7 +7,7 @@ use parcels::no_parcel;
 use rules::{Answer, NO_LINK, Pair, Parcel, Sight};
 
 // A slot number past the last slot sets nothing, nor does a link past the last entry, and counter 0 raises nothing.
-#[derive(Drop)]
+#[derive(Clone, Copy)]
 pub struct Verdict {
     pub refusal: u32,
     pub value: u64,

@@ -3,7 +3,7 @@
 use Prim.Native.Nat.{ℕ, zero, suc, ◌+◌, ◌*◌, ◌≤◌, ◌<◌}
 use native.Mathlib.Nat.{suc-ne-zero}
 use native.Mathlib.Omega.{arith}
-use mathlib.Core.Bool.{Bool, true, false, cond}
+use mathlib.Core.Bool.{false}
 use mathlib.Core.Path.{◌≡◌, refl, sym, ap, ◌∙◌}
 use mathlib.Core.List.{List}
 use mathlib.Core.Logic.{◌⊎◌, inl, inr}
@@ -11,7 +11,6 @@ use lib.ListN.{length, get_or, set}
 use lib.Dec.{leb, ltb}
 use borrow.Author.Tests.{lt-ltb, le-ltb, le-leb, lt-leb}
 use Rattle.rules.specs.declared.Answer.{Answer}
-use Rattle.rules.specs.declared.Found.{Found}
 use Rattle.rules.specs.declared.Found.TheVariants.{At, Absent}
 use Rattle.rules.specs.meaning.Lengths.{M, after_remove}
 use Rattle.rules.proofs.laws.Lengths.{remove_none, remove_rises}
@@ -19,7 +18,7 @@ use Rattle.rules.specs.meaning.Table.{SoundTable, capacity, length_at, length_of
 use Rattle.rules.specs.meaning.Operations.{accepted, out_of_room, crowded, answer, unless_refused, length_refusal, raise_answer, raise_table, removed_length, remove_refusal, remove_answer, remove_table}
 use Rattle.rules.proofs.laws.table.Order.{lt_or_le}
 use Rattle.rules.proofs.laws.table.Update.{held_with_law, fitting_here}
-use Rattle.rules.proofs.laws.table.Places.{Laid, laid_of, at_found, none_found}
+use Rattle.rules.proofs.laws.table.Places.{laid_of, at_found, none_found}
 use Rattle.rules.proofs.laws.table.Insert.{raised_set}
 use Rattle.rules.proofs.laws.table.Operations.{raise_refused, raise_accepted}
 

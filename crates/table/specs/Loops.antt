@@ -1,6 +1,6 @@
 -- What the loops of this crate compute, turn by turn: only contracts of its own helpers cite these.
 -- Assumes nothing.
-use Rattle.std.specs.Prelude.{ℕ, zero, suc, ◌+◌, ◌*◌, ◌≤◌, ◌<◌, Bool, true, false, ◌&&◌, not, ◌≡◌, List, [], ◌∷◌, length, get_or, drop, set, leb, ltb, eqb}
+use Rattle.std.specs.Prelude.{ℕ, zero, suc, ◌+◌, ◌*◌, ◌≤◌, ◌<◌, Bool, true, ◌&&◌, not, ◌≡◌, List, [], ◌∷◌, length, get_or, drop, set, leb, ltb, eqb}
 use Rattle.rules.specs.meaning.Table.{id_at, length_at}
 
 -- the first k entries: each length 1 to `most`, each id above the one before

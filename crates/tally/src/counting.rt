@@ -10,7 +10,7 @@ use table::held;
 pub const FEW: usize = 8;
 
 // What a merge comes to: the entries that the table and the source have, those that the table ends with, and the lengths that rise.
-#[derive(Drop)]
+#[derive(Clone, Copy)]
 pub struct Tally {
     pub own: usize,
     pub others: usize,
@@ -19,7 +19,7 @@ pub struct Tally {
 }
 
 // How far the walk has come: the entries passed in the table and in the source, what those passed come to, and whether a stretch of equal ids may begin.
-#[derive(Drop)]
+#[derive(Clone, Copy)]
 struct At {
     own: usize,
     others: usize,

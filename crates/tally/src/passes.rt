@@ -3,7 +3,7 @@ ghost use Rattle.std.specs.Prelude.{◌≡◌, ◌+◌, ◌*◌, ◌≤◌, ◌<
 ghost use Rattle.rules.specs.meaning.Table.{id_at};
 
 // One turn by value: how far it goes on in the table and in the source, the ids that stand there then, and whether a length of a common id rises.
-#[derive(Drop)]
+#[derive(Clone, Copy)]
 pub(crate) struct Passed {
     pub own: usize,
     pub others: usize,

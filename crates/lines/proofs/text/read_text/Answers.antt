@@ -1,0 +1,19 @@
+-- `lines::text::read_text`: `Kept` of `Pieces` goes through the loop.
+use native.Mathlib.Omega.{arith}
+use Rattle.lines.proofs.Pieces.{text_short, text_begins, text_more, text_other, text_end}
+use Rattle.lines.proofs.text.read_text.Goals as goal
+
+pub returns-then-line-place : goal.returns-then-line-place
+returns-then-line-place c = text_short _ _ _ c.if-line-place.true
+
+pub loop-j-init : goal.loop-j-init
+loop-j-init c = (omega arith, text_begins c.args.line.now c.args.place c.args.text.now)
+
+pub returns-then-line-place-2 : goal.returns-then-line-place-2
+returns-then-line-place-2 c = let l = c in text_other _ _ _ _ l.loop-j.invariant.1 (omega arith) l.loop-j-test.true c.if-line-place-2.true
+
+pub loop-j-preserved : goal.loop-j-preserved
+loop-j-preserved c = let l = c in (omega arith, text_more _ _ _ _ l.loop-j.invariant.1 (omega arith) l.loop-j-test.true c.if-line-place-2.false)
+
+pub returns : goal.returns
+returns c = text_end _ _ _ _ c.loop-j.invariant.1 c.loop-j-test.false (omega arith)

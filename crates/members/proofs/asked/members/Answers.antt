@@ -1,0 +1,18 @@
+-- `members::asked::members`: by the verdict.
+use mathlib.Core.Path.{sym, ◌∙◌}
+use Rattle.members.proofs.Refusing.{accepted, written, untouched}
+use Rattle.members.proofs.asked.members.Goals as goal
+
+pub fill-requires : goal.fill-requires
+fill-requires c =
+    let v = c in
+    accepted _ _ _ (sym v.refusal_of-refusal.ensures ∙ c.if-refusal-eq0.true)
+
+pub returns-then-refusal-eq0 : goal.returns-then-refusal-eq0
+returns-then-refusal-eq0 c =
+    let f = c in
+    let v = f in
+    written _ _ _ _ _ v.refusal_of-refusal.ensures f.if-refusal-eq0.true f.fill.ensures
+
+pub returns-else-refusal-eq0 : goal.returns-else-refusal-eq0
+returns-else-refusal-eq0 c = untouched _ _ _ _ c.refusal_of-refusal.ensures c.if-refusal-eq0.false

@@ -1,0 +1,10 @@
+-- `members::bytes::eight`: the byte holds the answers so far (`Packed`).
+use Prim.Native.Nat.{◌≤◌, ◌-◌}
+use Rattle.members.proofs.Packing.{Packed}
+use Rattle.members.proofs.bytes.eight.Given as goal
+
+abbrev pub invariant-loop-i : goal.invariant-loop-i
+invariant-loop-i l = (l.i ≤ l.end) × Packed l.table l.ids l.from l.i l.byte
+
+abbrev pub decreases-loop-i : goal.decreases-loop-i
+decreases-loop-i l = l.end - l.i
