@@ -1,55 +1,80 @@
 // Reads lines, valid and damaged, and says of each the refusal, or the four numbers and the line written back from them.
 #![tactic(auto)]
 
-use libc::{STDIN_FILENO, STDOUT_FILENO};
-use rules::Line;
+ghost use Rattle.std.specs.Prelude.{◌≡◌, ◌≤◌, replicate, length, IfOk};
 
-fn main() {
-    let mut input = io::large_buffer();
-    let n = io::read_full(STDIN_FILENO, &mut input);
-    each_line(&input[..n]);
+use rules::Line;
+use std::io;
+use std::io::Read;
+
+// Room for the lines.
+fn input_buffer() -> [u8; 65536]
+    ensures { result ≡ replicate 65536 0 }
+{
+    [0; 65536]
 }
 
-fn each_line(input: &[u8]) {
+// Reads until the buffer is full or the input ends, and answers how many bytes that is.
+fn read_full<R: Read>(input: &mut R, buffer: &mut [u8]) -> io::Result<usize>
+    ensures { IfOk result (λ n. n ≤ length buffer.new) }
+{
+    let mut done = 0;
+    while done < buffer.len() {
+        let n = input.read(&mut buffer[done..])?;
+        if n == 0 {
+            break;
+        }
+        done += n;
+    }
+    Ok(done)
+}
+
+fn main(rt: HostRuntime) -> io::Result<()> {
+    let mut input = input_buffer();
+    let n = read_full(&mut rt.stdin(), &mut input)?;
+    each_line(&rt, &input[..n])
+}
+
+fn each_line(rt: &impl Print, input: &[u8]) -> io::Result<()> {
     let mut number: u64 = 1;
     let mut start = 0;
     let mut i = 0;
     while i < input.len() {
         if input[i] == 10 {
-            one_line(number, &input[start..i]);
+            one_line(rt, number, &input[start..i])?;
             number += 1;
             start = i + 1;
         }
         i += 1;
     }
+    Ok(())
 }
 
 // The refusal is that of the reader that C calls; the numbers are those of the reader that Rattle calls.
-fn one_line(number: u64, line: &[u8]) {
-    named(b"line=", number);
+fn one_line(rt: &impl Print, number: u64, line: &[u8]) -> io::Result<()> {
+    named(rt, "line=", number)?;
     let mut area = [0u8; 32];
     let refusal = lines::read_into(line, &mut area);
     if refusal != 0 {
-        named(b" refused=", refusal as u64);
+        named(rt, " refused=", refusal as u64)?;
     }
     if let Line::Numbers(kind, first, second, id) = lines::read_line(line) {
-        named(b" kind=", kind);
-        named(b" first=", first);
-        named(b" second=", second);
-        named(b" id=", id);
-        written(kind, first, second, id);
+        named(rt, " kind=", kind)?;
+        named(rt, " first=", first)?;
+        named(rt, " second=", second)?;
+        named(rt, " id=", id)?;
+        written(rt, kind, first, second, id)?;
     }
-    io::write_all(STDOUT_FILENO, b"\n");
+    println!(rt)
 }
 
-fn written(kind: u64, first: u64, second: u64, id: u64) {
+fn written(rt: &impl Print, kind: u64, first: u64, second: u64, id: u64) -> io::Result<()> {
     let mut buffer = [0u8; 83];
-    io::write_all(STDOUT_FILENO, b" ");
+    print!(rt; " ")?;
     let line = lines::write_line(kind, first, second, id, &mut buffer);
-    io::write_all(STDOUT_FILENO, line);
+    rt.write_all(line)
 }
 
-fn named(name: &[u8], n: u64) {
-    io::write_all(STDOUT_FILENO, name);
-    io::print_decimal(STDOUT_FILENO, n);
+fn named(rt: &impl Print, name: &str, n: u64) -> io::Result<()> {
+    print!(rt; "{name}{n}")
 }

@@ -3,6 +3,7 @@ ghost use Rattle.std.specs.Prelude.{◌<◌, ◌≡◌, length};
 
 use crate::show::{two_ends, whole};
 use rules::INPUT_MAX;
+use std::io;
 
 // As many bytes as are run, all the same.
 fn full(b: u8) -> [u8; INPUT_MAX]
@@ -40,23 +41,23 @@ fn repeat(text: &[u8], buffer: &mut [u8]) {
     }
 }
 
-fn past_the_limit(out: &mut [u8]) {
+fn past_the_limit(rt: &impl Print, out: &mut [u8]) -> io::Result<()> {
     let mut input = over(10);
-    whole(b"-- 32,769 line ends\n", &input, out);
+    whole(rt, "-- 32,769 line ends\n", &input, out)?;
     repeat(b"step=query node=0 id=0\n", &mut input);
-    whole(b"-- 32,769 bytes of queries\n", &input, out);
+    whole(rt, "-- 32,769 bytes of queries\n", &input, out)
 }
 
-fn at_the_limit(out: &mut [u8]) {
+fn at_the_limit(rt: &impl Print, out: &mut [u8]) -> io::Result<()> {
     let mut input = full(10);
-    two_ends(b"-- 32,768 line ends\n", &input, out);
+    two_ends(rt, "-- 32,768 line ends\n", &input, out)?;
     repeat(b"step=query node=0 id=0\n", &mut input);
-    two_ends(b"-- 32,768 bytes of queries\n", &input, out);
+    two_ends(rt, "-- 32,768 bytes of queries\n", &input, out)?;
     let piece = full(115);
-    two_ends(b"-- 32,768 bytes in one piece\n", &piece, out);
+    two_ends(rt, "-- 32,768 bytes in one piece\n", &piece, out)
 }
 
-pub(crate) fn long_inputs(out: &mut [u8]) {
-    past_the_limit(out);
-    at_the_limit(out);
+pub(crate) fn long_inputs(rt: &impl Print, out: &mut [u8]) -> io::Result<()> {
+    past_the_limit(rt, out)?;
+    at_the_limit(rt, out)
 }

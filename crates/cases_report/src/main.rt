@@ -8,9 +8,10 @@ mod texts;
 
 use crate::long::long_inputs;
 use crate::texts::texts;
+use std::io;
 
-fn main() {
+fn main(rt: HostRuntime) -> io::Result<()> {
     let mut out = report::largest_room();
-    texts(&mut out);
-    long_inputs(&mut out);
+    texts(&rt, &mut out)?;
+    long_inputs(&rt, &mut out)
 }

@@ -1,20 +1,25 @@
 // What is printed of an input.
 ghost use Rattle.std.specs.Prelude.{◌<◌};
 
-use libc::STDOUT_FILENO;
+use std::io;
 
 // All of it, under a name.
-pub(crate) fn whole(name: &[u8], input: &[u8], out: &mut [u8]) {
-    io::write_all(STDOUT_FILENO, name);
+pub(crate) fn whole(rt: &impl Print, name: &str, input: &[u8], out: &mut [u8]) -> io::Result<()> {
+    print!(rt; "{name}")?;
     let n = report::printed(input, out);
-    io::write_all(STDOUT_FILENO, &out[..n]);
+    rt.write_all(&out[..n])
 }
 
 // Its length, its checksum and its two ends.
-pub(crate) fn two_ends(name: &[u8], input: &[u8], out: &mut [u8]) {
-    io::write_all(STDOUT_FILENO, name);
+pub(crate) fn two_ends(
+    rt: &impl Print,
+    name: &str,
+    input: &[u8],
+    out: &mut [u8],
+) -> io::Result<()> {
+    print!(rt; "{name}")?;
     let n = report::printed(input, out);
-    show_ends(&out[..n]);
+    show_ends(rt, &out[..n])
 }
 
 fn wide(b: u8) -> u64
@@ -34,15 +39,11 @@ fn checksum(text: &[u8]) -> u64 {
     s
 }
 
-fn show_ends(text: &[u8]) {
+fn show_ends(rt: &impl Print, text: &[u8]) -> io::Result<()> {
     let n = text.len();
-    io::write_all(STDOUT_FILENO, b"bytes=");
-    io::print_decimal(STDOUT_FILENO, n as u64);
-    io::write_all(STDOUT_FILENO, b" sum=");
-    io::print_decimal(STDOUT_FILENO, checksum(text));
-    io::write_all(STDOUT_FILENO, b"\n");
-    let k = io::count(200, text);
-    io::write_all(STDOUT_FILENO, &text[..k]);
-    io::write_all(STDOUT_FILENO, b"\n..\n");
-    io::write_all(STDOUT_FILENO, &text[n - k..]);
+    println!(rt; "bytes={n} sum={}", checksum(text))?;
+    let k = n.min(200);
+    rt.write_all(&text[..k])?;
+    print!(rt; "\n..\n")?;
+    rt.write_all(&text[n - k..])
 }

@@ -18,12 +18,13 @@ use crate::outcomes::outcomes;
 use crate::refusals::refusals;
 use crate::sample::sample;
 use crate::serials::serials;
+use std::io;
 
-fn main() {
-    sample();
-    refusals();
-    outcomes();
-    damages();
-    counters_at_most();
-    serials();
+fn main(rt: HostRuntime) -> io::Result<()> {
+    sample(&rt)?;
+    refusals(&rt)?;
+    outcomes(&rt)?;
+    damages(&rt)?;
+    counters_at_most(&rt)?;
+    serials(&rt)
 }

@@ -5,83 +5,99 @@ use crate::show::show;
 use crate::steps::{add, again, deliver, lose, merge, query, remove, send};
 use kept::{Kept, fresh_kept};
 use rules::Run;
+use std::io;
 
-fn merge_accepted() {
-    text(b"a merge returns how many lengths rose; 8 sites, capacity 3\n");
+fn merge_accepted(rt: &impl Print) -> io::Result<()> {
+    text(
+        rt,
+        "a merge returns how many lengths rose; 8 sites, capacity 3\n",
+    )?;
     let run = eight_sites();
     let s = with_entry(fresh_kept(0), 0, 7, 2);
     let s = with_entry(s, 1, 9, 1);
     let s = with_entry(s, 3, 7, 1);
     let s = with_entry(s, 4, 8, 3);
-    let s = merge(s, run, 1, 0);
-    let s = merge(s, run, 1, 0);
-    let s = merge(s, run, 0, 1);
-    show(s, run);
+    let s = merge(rt, s, run, 1, 0)?;
+    let s = merge(rt, s, run, 1, 0)?;
+    let s = merge(rt, s, run, 0, 1)?;
+    show(rt, s, run)
 }
 
-fn refused_delivery_waits() {
-    text(b"a delivery with no room leaves its parcel; 12 sites, capacity 2\n");
+fn refused_delivery_waits(rt: &impl Print) -> io::Result<()> {
+    text(
+        rt,
+        "a delivery with no room leaves its parcel; 12 sites, capacity 2\n",
+    )?;
     let run = twelve_sites();
-    let s = add(fresh_kept(0), run, 0, 9);
-    let s = send(s, run, 0, 1, 9);
-    let s = add(s, run, 1, 7);
-    let s = add(s, run, 1, 8);
-    let s = deliver(s, run, 0);
-    show(s, run);
-    full_table_takes_a_held_id(s, run);
+    let s = add(rt, fresh_kept(0), run, 0, 9)?;
+    let s = send(rt, s, run, 0, 1, 9)?;
+    let s = add(rt, s, run, 1, 7)?;
+    let s = add(rt, s, run, 1, 8)?;
+    let s = deliver(rt, s, run, 0)?;
+    show(rt, s, run)?;
+    full_table_takes_a_held_id(rt, s, run)
 }
 
-fn full_table_takes_a_held_id(before: Kept, run: Run) {
-    text(b"an update of an id that the full table holds is taken\n");
-    let s = add(before, run, 0, 7);
-    let s = remove(s, run, 0, 7);
-    let s = send(s, run, 0, 1, 7);
-    let s = deliver(s, run, 1);
-    let s = lose(s, run, 0);
-    show(s, run);
+fn full_table_takes_a_held_id(rt: &impl Print, before: Kept, run: Run) -> io::Result<()> {
+    text(
+        rt,
+        "an update of an id that the full table holds is taken\n",
+    )?;
+    let s = add(rt, before, run, 0, 7)?;
+    let s = remove(rt, s, run, 0, 7)?;
+    let s = send(rt, s, run, 0, 1, 7)?;
+    let s = deliver(rt, s, run, 1)?;
+    let s = lose(rt, s, run, 0)?;
+    show(rt, s, run)
 }
 
-fn two_lengths_under_way(run: Run) -> Kept {
-    let s = add(fresh_kept(0), run, 0, 7);
-    let s = send(s, run, 0, 1, 7);
-    let s = again(s, run, 0);
-    let s = again(s, run, 1);
-    let s = remove(s, run, 0, 7);
-    send(s, run, 0, 1, 7)
+fn two_lengths_under_way(rt: &impl Print, run: Run) -> io::Result<Kept> {
+    let s = add(rt, fresh_kept(0), run, 0, 7)?;
+    let s = send(rt, s, run, 0, 1, 7)?;
+    let s = again(rt, s, run, 0)?;
+    let s = again(rt, s, run, 1)?;
+    let s = remove(rt, s, run, 0, 7)?;
+    send(rt, s, run, 0, 1, 7)
 }
 
-fn stale_and_freed() {
-    text(b"a stale delivery counts, and freed slots are used again: 3 sites, capacity 8\n");
+fn stale_and_freed(rt: &impl Print) -> io::Result<()> {
+    text(
+        rt,
+        "a stale delivery counts, and freed slots are used again: 3 sites, capacity 8\n",
+    )?;
     let run = three_sites();
-    let s = two_lengths_under_way(run);
-    let s = deliver(s, run, 3);
-    let s = deliver(s, run, 1);
-    let s = lose(s, run, 0);
-    let s = send(s, run, 0, 2, 7);
-    let s = again(s, run, 2);
-    let s = again(s, run, 0);
-    show(s, run);
+    let s = two_lengths_under_way(rt, run)?;
+    let s = deliver(rt, s, run, 3)?;
+    let s = deliver(rt, s, run, 1)?;
+    let s = lose(rt, s, run, 0)?;
+    let s = send(rt, s, run, 0, 2, 7)?;
+    let s = again(rt, s, run, 2)?;
+    let s = again(rt, s, run, 0)?;
+    show(rt, s, run)
 }
 
 // Id 0 is an ordinary id, and a number far outside must not wrap into the run.
-fn ends_of_the_numbers() {
-    text(b"the smallest and the largest numbers: 3 sites, capacity 8\n");
+fn ends_of_the_numbers(rt: &impl Print) -> io::Result<()> {
+    text(
+        rt,
+        "the smallest and the largest numbers: 3 sites, capacity 8\n",
+    )?;
     let run = three_sites();
-    let s = add(fresh_kept(0), run, 0, 18446744073709551615);
-    let s = add(s, run, 0, 0);
-    let s = send(s, run, 0, 1, 0);
-    let s = deliver(s, run, 0);
-    let s = merge(s, run, 0, 2);
-    let s = query(s, run, 18446744073709551615, 7);
-    let s = send(s, run, 0, 18446744073709551615, 0);
-    let s = again(s, run, 18446744073709551615);
-    let s = lose(s, run, 9223372036854775808);
-    show(s, run);
+    let s = add(rt, fresh_kept(0), run, 0, 18446744073709551615)?;
+    let s = add(rt, s, run, 0, 0)?;
+    let s = send(rt, s, run, 0, 1, 0)?;
+    let s = deliver(rt, s, run, 0)?;
+    let s = merge(rt, s, run, 0, 2)?;
+    let s = query(rt, s, run, 18446744073709551615, 7)?;
+    let s = send(rt, s, run, 0, 18446744073709551615, 0)?;
+    let s = again(rt, s, run, 18446744073709551615)?;
+    let s = lose(rt, s, run, 9223372036854775808)?;
+    show(rt, s, run)
 }
 
-pub(crate) fn outcomes() {
-    merge_accepted();
-    refused_delivery_waits();
-    stale_and_freed();
-    ends_of_the_numbers();
+pub(crate) fn outcomes(rt: &impl Print) -> io::Result<()> {
+    merge_accepted(rt)?;
+    refused_delivery_waits(rt)?;
+    stale_and_freed(rt)?;
+    ends_of_the_numbers(rt)
 }

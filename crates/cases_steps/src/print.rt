@@ -1,11 +1,10 @@
 // Lines of text and numbers on the standard output.
-use libc::STDOUT_FILENO;
+use std::io;
 
-pub(crate) fn text(line: &[u8]) {
-    io::write_all(STDOUT_FILENO, line);
+pub(crate) fn text(rt: &impl Print, line: &str) -> io::Result<()> {
+    print!(rt; "{line}")
 }
 
-pub(crate) fn number(key: &[u8], n: u64) {
-    text(key);
-    io::print_decimal(STDOUT_FILENO, n);
+pub(crate) fn number(rt: &impl Print, key: &str, n: u64) -> io::Result<()> {
+    print!(rt; "{key}{n}")
 }

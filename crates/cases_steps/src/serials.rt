@@ -7,68 +7,78 @@ use crate::show::show;
 use crate::steps::{add, again, deliver, query, remove, send};
 use kept::fresh_kept;
 use rules::M;
+use std::io;
 
-fn wrapped() {
+fn wrapped(rt: &impl Print) -> io::Result<()> {
     text(
-        b"serials that wrap: the first is 4294967295; the newest arrives first, then its copy, then the older one\n",
-    );
+        rt,
+        "serials that wrap: the first is 4294967295; the newest arrives first, then its copy, then the older one\n",
+    )?;
     let run = three_sites();
-    let s = add(fresh_kept(4294967295), run, 0, 7);
-    let s = send(s, run, 0, 1, 7);
-    let s = remove(s, run, 0, 7);
-    let s = send(s, run, 0, 1, 7);
-    let s = again(s, run, 1);
-    let s = send(s, run, 0, 1, 9);
-    show(s, run);
-    let s = deliver(s, run, 1);
-    let s = deliver(s, run, 2);
-    let s = deliver(s, run, 0);
-    show(s, run);
+    let s = add(rt, fresh_kept(4294967295), run, 0, 7)?;
+    let s = send(rt, s, run, 0, 1, 7)?;
+    let s = remove(rt, s, run, 0, 7)?;
+    let s = send(rt, s, run, 0, 1, 7)?;
+    let s = again(rt, s, run, 1)?;
+    let s = send(rt, s, run, 0, 1, 9)?;
+    show(rt, s, run)?;
+    let s = deliver(rt, s, run, 1)?;
+    let s = deliver(rt, s, run, 2)?;
+    let s = deliver(rt, s, run, 0)?;
+    show(rt, s, run)
 }
 
-fn half_apart() {
+fn half_apart(rt: &impl Print) -> io::Result<()> {
     text(
-        b"15 before 8 before 10: a serial half of all away from the newest heard; site 1 full, absorbed at M; 12 sites, capacity 2\n",
-    );
+        rt,
+        "15 before 8 before 10: a serial half of all away from the newest heard; site 1 full, absorbed at M; 12 sites, capacity 2\n",
+    )?;
     let run = twelve_sites();
     let s = with_entry(fresh_kept(0), 2, 8, 1);
     let s = with_entry(s, 3, 9, 1);
     let s = with_parcel(s, 0, parcel_to(1, 7, 1));
     let s = with_ledger(s, M, 1, M, 0);
     let far = with_pair(s, 1, pair_of(1, 2147483648, 0, 0));
-    show(deliver(far, run, 0), run);
+    show(rt, deliver(rt, far, run, 0)?, run)?;
     let near = with_pair(s, 1, pair_of(1, 2147483649, 0, 0));
-    show(deliver(near, run, 0), run);
+    show(rt, deliver(rt, near, run, 0)?, run)
 }
 
-fn heard() {
+fn heard(rt: &impl Print) -> io::Result<()> {
     text(
-        b"one less away it is newer, one more away it is older; with nothing heard any serial is taken\n",
-    );
+        rt,
+        "one less away it is newer, one more away it is older; with nothing heard any serial is taken\n",
+    )?;
     let run = three_sites();
     let s = with_parcel(fresh_kept(0), 0, parcel_to(1, 7, 1));
     let s = with_ledger(s, 1, 0, 0, 0);
     let older = with_pair(s, 1, pair_of(1, 2147483649, 0, 0));
-    show(deliver(older, run, 0), run);
+    show(rt, deliver(rt, older, run, 0)?, run)?;
     let newer = with_pair(s, 1, pair_of(1, 2147483647, 0, 0));
-    show(deliver(newer, run, 0), run);
-    show(deliver(s, run, 0), run);
+    show(rt, deliver(rt, newer, run, 0)?, run)?;
+    show(rt, deliver(rt, s, run, 0)?, run)
 }
 
-fn damaged_links() {
+fn damaged_links(rt: &impl Print) -> io::Result<()> {
     let run = three_sites();
-    text(b"damaged: something heard under the mark of nothing heard\n");
+    text(
+        rt,
+        "damaged: something heard under the mark of nothing heard\n",
+    )?;
     let s = with_pair(fresh_kept(0), 33, pair_of(0, 1, 1, 7));
-    show(query(s, run, 0, 7), run);
-    text(b"the same where no link of the run is: a site to itself, and a site outside the run\n");
+    show(rt, query(rt, s, run, 0, 7)?, run)?;
+    text(
+        rt,
+        "the same where no link of the run is: a site to itself, and a site outside the run\n",
+    )?;
     let s = with_pair(fresh_kept(0), 17, pair_of(0, 1, 1, 7));
     let s = with_pair(s, 3, pair_of(0, 1, 1, 7));
-    show(query(s, run, 0, 7), run);
+    show(rt, query(rt, s, run, 0, 7)?, run)
 }
 
-pub(crate) fn serials() {
-    wrapped();
-    half_apart();
-    heard();
-    damaged_links();
+pub(crate) fn serials(rt: &impl Print) -> io::Result<()> {
+    wrapped(rt)?;
+    half_apart(rt)?;
+    heard(rt)?;
+    damaged_links(rt)
 }

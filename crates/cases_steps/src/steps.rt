@@ -2,97 +2,123 @@
 use crate::print::{number, text};
 use kept::Kept;
 use rules::{Answer, Run, Step};
+use std::io;
 
-fn say(answer: Answer) {
+fn say(rt: &impl Print, answer: Answer) -> io::Result<()> {
     if answer.refusal == 0 {
-        number(b" value=", answer.value);
+        number(rt, " value=", answer.value)?;
     } else {
-        number(b" refused=", answer.refusal as u64);
+        number(rt, " refused=", answer.refusal as u64)?;
     }
-    text(b"\n");
+    text(rt, "\n")
 }
 
-fn show_of_id(kind: &[u8], site: u64, id: u64) {
-    text(kind);
-    number(b" node=", site);
-    number(b" id=", id);
+fn show_of_id(rt: &impl Print, kind: &str, site: u64, id: u64) -> io::Result<()> {
+    text(rt, kind)?;
+    number(rt, " node=", site)?;
+    number(rt, " id=", id)
 }
 
-fn show_between(kind: &[u8], from: u64, to: u64) {
-    text(kind);
-    number(b" from=", from);
-    number(b" to=", to);
+fn show_between(rt: &impl Print, kind: &str, from: u64, to: u64) -> io::Result<()> {
+    text(rt, kind)?;
+    number(rt, " from=", from)?;
+    number(rt, " to=", to)
 }
 
-fn show_send(from: u64, to: u64, id: u64) {
-    show_between(b"step=send", from, to);
-    number(b" id=", id);
+fn show_send(rt: &impl Print, from: u64, to: u64, id: u64) -> io::Result<()> {
+    show_between(rt, "step=send", from, to)?;
+    number(rt, " id=", id)
 }
 
 // The form of a step line.
-fn show_step(step: Step) {
+fn show_step(rt: &impl Print, step: Step) -> io::Result<()> {
     match step {
-        Step::Add { site, id } => show_of_id(b"step=add", site, id),
-        Step::Remove { site, id } => show_of_id(b"step=remove", site, id),
-        Step::Query { site, id } => show_of_id(b"step=query", site, id),
-        Step::Send { from, to, id } => show_send(from, to, id),
-        Step::Merge { from, to } => show_between(b"step=merge", from, to),
-        Step::Deliver { slot } => number(b"step=deliver slot=", slot),
-        Step::Again { slot } => number(b"step=again slot=", slot),
-        Step::Lose { slot } => number(b"step=lose slot=", slot),
+        Step::Add { site, id } => show_of_id(rt, "step=add", site, id),
+        Step::Remove { site, id } => show_of_id(rt, "step=remove", site, id),
+        Step::Query { site, id } => show_of_id(rt, "step=query", site, id),
+        Step::Send { from, to, id } => show_send(rt, from, to, id),
+        Step::Merge { from, to } => show_between(rt, "step=merge", from, to),
+        Step::Deliver { slot } => number(rt, "step=deliver slot=", slot),
+        Step::Again { slot } => number(rt, "step=again slot=", slot),
+        Step::Lose { slot } => number(rt, "step=lose slot=", slot),
     }
 }
 
 // The run after the step.
-fn play(before: Kept, run: Run, step: Step) -> Kept {
-    show_step(step);
+fn play(rt: &impl Print, before: Kept, run: Run, step: Step) -> io::Result<Kept> {
+    show_step(rt, step)?;
     let moved = kept::step_kept(before, run, step);
     let answer = moved.answer;
-    say(answer);
+    say(rt, answer)?;
     let after = moved.kept;
-    after
+    Ok(after)
 }
 
-pub(crate) fn add(before: Kept, run: Run, site: u64, id: u64) -> Kept {
+pub(crate) fn add(rt: &impl Print, before: Kept, run: Run, site: u64, id: u64) -> io::Result<Kept> {
     let step = Step::Add { site: site, id: id };
-    play(before, run, step)
+    play(rt, before, run, step)
 }
 
-pub(crate) fn remove(before: Kept, run: Run, site: u64, id: u64) -> Kept {
+pub(crate) fn remove(
+    rt: &impl Print,
+    before: Kept,
+    run: Run,
+    site: u64,
+    id: u64,
+) -> io::Result<Kept> {
     let step = Step::Remove { site: site, id: id };
-    play(before, run, step)
+    play(rt, before, run, step)
 }
 
-pub(crate) fn query(before: Kept, run: Run, site: u64, id: u64) -> Kept {
+pub(crate) fn query(
+    rt: &impl Print,
+    before: Kept,
+    run: Run,
+    site: u64,
+    id: u64,
+) -> io::Result<Kept> {
     let step = Step::Query { site: site, id: id };
-    play(before, run, step)
+    play(rt, before, run, step)
 }
 
-pub(crate) fn send(before: Kept, run: Run, from: u64, to: u64, id: u64) -> Kept {
+pub(crate) fn send(
+    rt: &impl Print,
+    before: Kept,
+    run: Run,
+    from: u64,
+    to: u64,
+    id: u64,
+) -> io::Result<Kept> {
     let step = Step::Send {
         from: from,
         to: to,
         id: id,
     };
-    play(before, run, step)
+    play(rt, before, run, step)
 }
 
-pub(crate) fn merge(before: Kept, run: Run, from: u64, to: u64) -> Kept {
+pub(crate) fn merge(
+    rt: &impl Print,
+    before: Kept,
+    run: Run,
+    from: u64,
+    to: u64,
+) -> io::Result<Kept> {
     let step = Step::Merge { from: from, to: to };
-    play(before, run, step)
+    play(rt, before, run, step)
 }
 
-pub(crate) fn deliver(before: Kept, run: Run, slot: u64) -> Kept {
+pub(crate) fn deliver(rt: &impl Print, before: Kept, run: Run, slot: u64) -> io::Result<Kept> {
     let step = Step::Deliver { slot: slot };
-    play(before, run, step)
+    play(rt, before, run, step)
 }
 
-pub(crate) fn again(before: Kept, run: Run, slot: u64) -> Kept {
+pub(crate) fn again(rt: &impl Print, before: Kept, run: Run, slot: u64) -> io::Result<Kept> {
     let step = Step::Again { slot: slot };
-    play(before, run, step)
+    play(rt, before, run, step)
 }
 
-pub(crate) fn lose(before: Kept, run: Run, slot: u64) -> Kept {
+pub(crate) fn lose(rt: &impl Print, before: Kept, run: Run, slot: u64) -> io::Result<Kept> {
     let step = Step::Lose { slot: slot };
-    play(before, run, step)
+    play(rt, before, run, step)
 }

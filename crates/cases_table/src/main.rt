@@ -1,26 +1,25 @@
 // A table with room for three ids takes adds, removes, updates and merges, and says what became of each.
 #![tactic(auto)]
 
-use libc::STDOUT_FILENO;
 use rules::Answer;
+use std::io;
 
-fn text(line: &[u8]) {
-    io::write_all(STDOUT_FILENO, line);
+fn text(rt: &impl Print, line: &str) -> io::Result<()> {
+    print!(rt; "{line}")
 }
 
-fn number(key: &[u8], n: u64) {
-    text(key);
-    io::print_decimal(STDOUT_FILENO, n);
+fn number(rt: &impl Print, key: &str, n: u64) -> io::Result<()> {
+    print!(rt; "{key}{n}")
 }
 
 // The result of a step: `key` with the value where it was accepted, else the refusal.
-fn say(key: &[u8], answer: Answer) {
+fn say(rt: &impl Print, key: &str, answer: Answer) -> io::Result<()> {
     if answer.refusal == 0 {
-        number(key, answer.value);
+        number(rt, key, answer.value)?;
     } else {
-        number(b" refused=", answer.refusal as u64);
+        number(rt, " refused=", answer.refusal as u64)?;
     }
-    text(b"\n");
+    text(rt, "\n")
 }
 
 // The layer above a table judges it once, before a step: here, before each of them.
@@ -64,94 +63,97 @@ fn merge(words: &mut [u64], entries: &[u64]) -> Answer {
     unsound()
 }
 
-fn show_add(words: &mut [u64], id: u64) {
-    number(b"step=add id=", id);
-    say(b" length=", add(words, id));
+fn show_add(rt: &impl Print, words: &mut [u64], id: u64) -> io::Result<()> {
+    number(rt, "step=add id=", id)?;
+    say(rt, " length=", add(words, id))
 }
 
-fn show_remove(words: &mut [u64], id: u64) {
-    number(b"step=remove id=", id);
-    say(b" length=", remove(words, id));
+fn show_remove(rt: &impl Print, words: &mut [u64], id: u64) -> io::Result<()> {
+    number(rt, "step=remove id=", id)?;
+    say(rt, " length=", remove(words, id))
 }
 
-fn show_absorb(words: &mut [u64], id: u64, length: u64) {
-    number(b"step=absorb id=", id);
-    number(b" arrives=", length);
-    say(b" length=", absorb(words, id, length));
+fn show_absorb(rt: &impl Print, words: &mut [u64], id: u64, length: u64) -> io::Result<()> {
+    number(rt, "step=absorb id=", id)?;
+    number(rt, " arrives=", length)?;
+    say(rt, " length=", absorb(words, id, length))
 }
 
-fn show_merge(words: &mut [u64], entries: &[u64]) {
-    text(b"step=merge");
-    say(b" rose=", merge(words, entries));
+fn show_merge(rt: &impl Print, words: &mut [u64], entries: &[u64]) -> io::Result<()> {
+    text(rt, "step=merge")?;
+    say(rt, " rose=", merge(words, entries))
 }
 
-fn show_entry(id: u64, length: u64) {
-    number(b"  id=", id);
-    number(b" length=", length);
-    number(b" present=", length % 2);
-    text(b"\n");
+fn show_entry(rt: &impl Print, id: u64, length: u64) -> io::Result<()> {
+    number(rt, "  id=", id)?;
+    number(rt, " length=", length)?;
+    number(rt, " present=", length % 2)?;
+    text(rt, "\n")
 }
 
 // Each entry of the table, and how many there were.
-fn show_entries(words: &[u64]) -> u64 {
+fn show_entries(rt: &impl Print, words: &[u64]) -> io::Result<u64> {
     let places = words.len() / 2;
     let mut held: u64 = 0;
     let mut i = 0;
     while i < places {
         let length = words[2 * i + 1];
         if length != 0 {
-            show_entry(words[2 * i], length);
+            show_entry(rt, words[2 * i], length)?;
             held += 1;
         }
         i += 1;
     }
-    held
+    Ok(held)
 }
 
 // The entries, then how many the table holds and how many of them are listed.
-fn show(words: &[u64]) {
-    let held = show_entries(words);
-    number(b"  held=", held);
-    number(b" shown=", table::shown(words) as u64);
-    text(b"\n");
+fn show(rt: &impl Print, words: &[u64]) -> io::Result<()> {
+    let held = show_entries(rt, words)?;
+    number(rt, "  held=", held)?;
+    number(rt, " shown=", table::shown(words) as u64)?;
+    text(rt, "\n")
 }
 
-fn main() {
+fn main(rt: HostRuntime) -> io::Result<()> {
     let mut site = [0u64; 6];
-    text(b"a site with room for 3 ids\n");
-    show_add(&mut site, 7);
-    show_add(&mut site, 7);
-    show_remove(&mut site, 7);
-    show_remove(&mut site, 8);
-    show_add(&mut site, 9);
-    show(&site);
-    text(b"another site's table, {7: 1, 8: 3}, is merged in\n");
+    text(&rt, "a site with room for 3 ids\n")?;
+    show_add(&rt, &mut site, 7)?;
+    show_add(&rt, &mut site, 7)?;
+    show_remove(&rt, &mut site, 7)?;
+    show_remove(&rt, &mut site, 8)?;
+    show_add(&rt, &mut site, 9)?;
+    show(&rt, &site)?;
+    text(&rt, "another site's table, {7: 1, 8: 3}, is merged in\n")?;
     let other = [7u64, 1, 8, 3];
-    show_merge(&mut site, &other);
-    show_merge(&mut site, &other);
-    show(&site);
-    text(b"the table is full\n");
-    show_add(&mut site, 5);
-    show_absorb(&mut site, 5, 1);
+    show_merge(&rt, &mut site, &other)?;
+    show_merge(&rt, &mut site, &other)?;
+    show(&rt, &site)?;
+    text(&rt, "the table is full\n")?;
+    show_add(&rt, &mut site, 5)?;
+    show_absorb(&rt, &mut site, 5, 1)?;
     let more = [5u64, 1, 7, 9];
-    show_merge(&mut site, &more);
-    show(&site);
-    text(b"a late update, and a newer one\n");
-    show_absorb(&mut site, 8, 2);
-    show_absorb(&mut site, 8, 4);
-    show(&site);
-    text(b"the lengths run out\n");
+    show_merge(&rt, &mut site, &more)?;
+    show(&rt, &site)?;
+    text(&rt, "a late update, and a newer one\n")?;
+    show_absorb(&rt, &mut site, 8, 2)?;
+    show_absorb(&rt, &mut site, 8, 4)?;
+    show(&rt, &site)?;
+    text(&rt, "the lengths run out\n")?;
     let mut worn = [7u64, 4294967294];
-    show_add(&mut worn, 7);
-    show_remove(&mut worn, 7);
-    show_add(&mut worn, 7);
-    show(&worn);
-    text(b"words that are no table: equal ids, a length above the largest, a word too many\n");
+    show_add(&rt, &mut worn, 7)?;
+    show_remove(&rt, &mut worn, 7)?;
+    show_add(&rt, &mut worn, 7)?;
+    show(&rt, &worn)?;
+    text(
+        &rt,
+        "words that are no table: equal ids, a length above the largest, a word too many\n",
+    )?;
     let mut twice = [7u64, 1, 7, 2];
-    show_add(&mut twice, 7);
+    show_add(&rt, &mut twice, 7)?;
     let mut above = [7u64, 4294967296];
-    show_remove(&mut above, 7);
+    show_remove(&rt, &mut above, 7)?;
     let mut odd = [7u64, 1, 0];
-    show_merge(&mut odd, &other);
-    show_merge(&mut site, &odd);
+    show_merge(&rt, &mut odd, &other)?;
+    show_merge(&rt, &mut site, &odd)
 }

@@ -1,10 +1,11 @@
 // The report program: standard input to its end, or to one byte past the limit, and what is printed of it to standard output.
 #![tactic(auto)]
 
-ghost use Rattle.std.specs.Prelude.{◌≡◌, replicate};
+ghost use Rattle.std.specs.Prelude.{◌≡◌, ◌≤◌, replicate, length, IfOk};
 
-use libc::{STDIN_FILENO, STDOUT_FILENO};
 use rules::INPUT_MAX;
+use std::io;
+use std::io::{Read, Write};
 
 // One byte more than is run.
 fn input_buffer() -> [u8; INPUT_MAX + 1]
@@ -13,10 +14,25 @@ fn input_buffer() -> [u8; INPUT_MAX + 1]
     [0; INPUT_MAX + 1]
 }
 
-fn main() {
+// Reads until the buffer is full or the input ends, and answers how many bytes that is.
+fn read_full<R: Read>(input: &mut R, buffer: &mut [u8]) -> io::Result<usize>
+    ensures { IfOk result (λ n. n ≤ length buffer.new) }
+{
+    let mut done = 0;
+    while done < buffer.len() {
+        let n = input.read(&mut buffer[done..])?;
+        if n == 0 {
+            break;
+        }
+        done += n;
+    }
+    Ok(done)
+}
+
+fn main(rt: HostRuntime) -> io::Result<()> {
     let mut input = input_buffer();
-    let n = io::read_full(STDIN_FILENO, &mut input);
+    let n = read_full(&mut rt.stdin(), &mut input)?;
     let mut out = report::largest_room();
     let written = report::printed(&input[..n], &mut out);
-    io::write_all(STDOUT_FILENO, &out[..written]);
+    rt.stdout().write_all(&out[..written])
 }
