@@ -1,8 +1,8 @@
 // Counters at M.
+use crate::each_step::{again, deliver, lose, merge, query, send};
 use crate::made::{parcel_to, three_sites, twelve_sites, with_entry, with_ledger, with_parcel};
 use crate::print::text;
 use crate::show::show;
-use crate::steps::{again, deliver, lose, merge, query, send};
 use kept::fresh_kept;
 use rules::M;
 use std::io;

@@ -1,8 +1,8 @@
 // Damaged states and wrong sizes are refused and left as they were, whatever the step.
+use crate::each_step::{add, again, deliver, lose, merge, query, remove, send};
 use crate::made::{parcel_to, three_sites, with_entry, with_ledger, with_parcel};
 use crate::print::{number, text};
 use crate::show::show;
-use crate::steps::{add, again, deliver, lose, merge, query, remove, send};
 use kept::{Kept, fresh_kept};
 use rules::{M, Run};
 use std::io;

@@ -3,6 +3,7 @@
 
 mod counters;
 mod damages;
+mod each_step;
 mod made;
 mod outcomes;
 mod print;
@@ -10,7 +11,6 @@ mod refusals;
 mod sample;
 mod serials;
 mod show;
-mod steps;
 
 use crate::counters::counters_at_most;
 use crate::damages::damages;

@@ -1,8 +1,8 @@
 // What accepted steps make of a run, and what refused ones leave.
+use crate::each_step::{add, again, deliver, lose, merge, query, remove, send};
 use crate::made::{eight_sites, three_sites, twelve_sites, with_entry};
 use crate::print::text;
 use crate::show::show;
-use crate::steps::{add, again, deliver, lose, merge, query, remove, send};
 use kept::{Kept, fresh_kept};
 use rules::Run;
 use std::io;

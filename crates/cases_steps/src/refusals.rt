@@ -1,8 +1,8 @@
 // The refusals in their order: wherever it can be, the later ones of the same step hold too.
+use crate::each_step::{add, again, deliver, lose, merge, query, remove, send};
 use crate::made::{all_waiting, one_site, three_sites, twelve_sites, with_entry, with_ledger};
 use crate::print::text;
 use crate::show::show;
-use crate::steps::{add, again, deliver, lose, merge, query, remove, send};
 use kept::fresh_kept;
 use rules::{M, Run};
 use std::io;

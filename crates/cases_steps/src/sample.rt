@@ -1,8 +1,8 @@
 // The sample run of the report program, its 17 steps.
+use crate::each_step::{add, again, deliver, lose, merge, query, remove, send};
 use crate::made::three_sites;
 use crate::print::text;
 use crate::show::show;
-use crate::steps::{add, again, deliver, lose, merge, query, remove, send};
 use kept::{Kept, fresh_kept};
 use rules::Run;
 use std::io;

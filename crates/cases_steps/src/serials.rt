@@ -1,10 +1,10 @@
 // Serials on links: that they wrap, what a delivery hears, what cannot be ordered, and which entries are looked at.
+use crate::each_step::{add, again, deliver, query, remove, send};
 use crate::made::{
     pair_of, parcel_to, three_sites, twelve_sites, with_entry, with_ledger, with_pair, with_parcel,
 };
 use crate::print::text;
 use crate::show::show;
-use crate::steps::{add, again, deliver, query, remove, send};
 use kept::fresh_kept;
 use rules::M;
 use std::io;
