@@ -55,7 +55,7 @@ module _ {most : ℕ} {t : List ℕ} {k : ℕ} (w : Laid most t k) (x : ℕ) whe
           room = omega (arith, s.room);
           start = s.start;
           below = s.below;
-          above = λ j q r. ⊎_elim (λ e. rw (← e) (past (omega arith))) (λ g. omega (arith, past (omega arith), w.rises mid j g r))
+          above = λ j q r. ⊎_elim (λ (e : mid ≡ j). rw (← e) (past (omega arith))) (λ (g : mid < j). omega (arith, past (omega arith), w.rises mid j g r))
               (eq-or-lt_of_le (omega arith));
         }
 

@@ -1,4 +1,4 @@
--- `gantry_report::main`: the part that is printed is within the buffer.
+-- The part that is printed is within the buffer.
 use Rattle.report.specs.Printing.{printed_fits, printed_part}
 use Rattle.gantry_report.proofs.main.Goals as goal
 

@@ -4,15 +4,10 @@ use Rattle.members.proofs.Refusing.{accepted, written, untouched}
 use Rattle.members.proofs.asked.members.Goals as goal
 
 pub fill-requires : goal.fill-requires
-fill-requires c =
-    let v = c in
-    accepted _ _ _ (sym v.refusal_of-refusal.ensures ∙ c.if-refusal-eq0.true)
+fill-requires c = accepted _ _ _ (sym c.refusal_of-refusal.ensures ∙ c.if-refusal-eq0.true)
 
 pub returns-then-refusal-eq0 : goal.returns-then-refusal-eq0
-returns-then-refusal-eq0 c =
-    let f = c in
-    let v = f in
-    written _ _ _ _ _ v.refusal_of-refusal.ensures f.if-refusal-eq0.true f.fill.ensures
+returns-then-refusal-eq0 c = written _ _ _ _ _ c.refusal_of-refusal.ensures c.if-refusal-eq0.true c.fill.ensures
 
 pub returns-else-refusal-eq0 : goal.returns-else-refusal-eq0
 returns-else-refusal-eq0 c = untouched _ _ _ _ c.refusal_of-refusal.ensures c.if-refusal-eq0.false

@@ -10,19 +10,14 @@ pub loop-i-init : goal.loop-i-init
 loop-i-init c = (omega (arith, c.end_of_byte-end.ensures, c.requires.2), packed_none _ _ _)
 
 pub with_answer-byte-requires : goal.with_answer-byte-requires
-with_answer-byte-requires c =
-    let l = c in
-    packed_lt _ _ _ l.loop-i.i _ l.requires.1 (omega arith) l.loop-i.invariant.1
+with_answer-byte-requires c = packed_lt _ _ _ c.loop-i.i _ c.requires.1 (omega arith) c.loop-i.invariant.1
 
 pub loop-i-preserved : goal.loop-i-preserved
-loop-i-preserved c =
-    let l = c in (
-      omega arith,
-      rw (c.with_answer-byte.ensures, c.is_member.ensures)
-          (packed_more _ _ _ l.loop-i.i _ l.requires.1 (omega arith) l.loop-i.invariant.1),
-    )
+loop-i-preserved c = (
+  omega arith,
+  rw (c.with_answer-byte.ensures, c.is_member.ensures)
+      (packed_more _ _ _ c.loop-i.i _ c.requires.1 (omega arith) c.loop-i.invariant.1),
+)
 
 pub returns : goal.returns
-returns c =
-    let l = c in
-    packed_all _ _ _ l.loop-i.i _ (omega arith) (omega arith) l.loop-i.invariant.1
+returns c = packed_all _ _ _ c.loop-i.i _ (omega arith) (omega arith) c.loop-i.invariant.1

@@ -17,26 +17,20 @@ returns-then-not-sound c = rw (c.if-table.false, sym c.sound.ensures ∙ c.if-no
 
 pub returns-then-ids-gt4096 : goal.returns-then-ids-gt4096
 unfolding members_refusal first_given
-returns-then-ids-gt4096 c =
-    let s = c in
-    rw (s.if-table.false, sym s.sound.ensures ∙ c.if-not-sound.false, lt-ltb 4096 _ c.if-ids-gt4096.true)
+returns-then-ids-gt4096 c = rw (c.if-table.false, sym c.sound.ensures ∙ c.if-not-sound.false, lt-ltb 4096 _ c.if-ids-gt4096.true)
 
 pub returns-then-room-bytes_for : goal.returns-then-room-bytes_for
 unfolding members_refusal first_given
 returns-then-room-bytes_for c =
-    let e = c in
-    let s = e in
-    let a = s.args in
+    let a = c.args in
     let room : a.room < bytes_for a.ids = omega (arith, c.if-room-bytes_for.true, c.bytes_for.ensures) in
     rw
-    (s.if-table.false, sym s.sound.ensures ∙ e.if-not-sound.false, le-ltb 4096 a.ids e.if-ids-gt4096.false, lt-ltb a.room (bytes_for a.ids) room)
+    (c.if-table.false, sym c.sound.ensures ∙ c.if-not-sound.false, le-ltb 4096 a.ids c.if-ids-gt4096.false, lt-ltb a.room (bytes_for a.ids) room)
 
 pub returns : goal.returns
 unfolding members_refusal first_given
 returns c =
-    let e = c in
-    let s = e in
-    let a = s.args in
+    let a = c.args in
     let room : bytes_for a.ids ≤ a.room = omega (arith, c.if-room-bytes_for.false, c.bytes_for.ensures) in
     rw
-    (s.if-table.false, sym s.sound.ensures ∙ e.if-not-sound.false, le-ltb 4096 a.ids e.if-ids-gt4096.false, le-ltb a.room (bytes_for a.ids) room)
+    (c.if-table.false, sym c.sound.ensures ∙ c.if-not-sound.false, le-ltb 4096 a.ids c.if-ids-gt4096.false, le-ltb a.room (bytes_for a.ids) room)

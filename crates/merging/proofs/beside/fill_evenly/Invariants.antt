@@ -1,4 +1,4 @@
--- `merging::beside::fill_evenly`: the merge has come so far (`Joining`), until nothing is left of the source (`filled-words`).
+-- `merging::beside::fill_evenly`: the merge has come so far (`Joining`), until nothing is left of the source (`filled_words`).
 use mathlib.Core.Path.{◌≡◌}
 use lib.ListN.{length, get_or}
 use Rattle.merging.specs.Walks.{Joining}

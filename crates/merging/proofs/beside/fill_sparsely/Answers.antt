@@ -11,35 +11,32 @@ loop-few-init c = (c.requires, refl)
 
 pub slide-there-requires : goal.slide-there-requires
 slide-there-requires c =
-    let i = c in
-    let l = i in
-    let f = l.loop-few.invariant.0.so_far in
-    (omega (arith, i.loop-few-test.true), f.own, omega (arith, f.fit, l.loop-few.invariant.1))
+    let f = c.loop-few.invariant.0.so_far in
+    (omega (arith, c.loop-few-test.true), f.own, omega (arith, f.fit, c.loop-few.invariant.1))
 
 pub turn-next-requires : goal.turn-next-requires
 turn-next-requires c =
-    let slid : let a = c in let there = c.slide-there.result in Joining a.args.table.now a.args.entries.now (λ q. get_or c.slide-there.new.table q 0) there.own there.others there.place = let i = c in let f = i.loop-few.invariant.0 in c.slide-there.ensures.by_index _ _ f (source_id f (omega (arith, i.loop-few-test.true))) in
-    let d = c in
-    let i = d in
-    let f = (slid).so_far in
-    let e = d.slide-there.ensures.others_value in
-    let some = i.loop-few-test.true in
-    (omega (arith, e.0, some), omega (arith, f.other, e.0, some), f.own, omega (arith, f.fit, e.2, i.loop-few.invariant.1))
+    let there = c.slide-there.result in
+    let some = c.loop-few-test.true in
+    let before = c.loop-few.invariant.0 in
+    let slid : Joining c.args.table.now c.args.entries.now (λ q. get_or c.slide-there.new.table q 0) there.own there.others there.place = c.slide-there.ensures.by_index _ _ before (source_id before (omega (arith, some))) in
+    let f = slid.so_far in
+    let e = c.slide-there.ensures.others_value in
+    (omega (arith, e.0, some), omega (arith, f.other, e.0, some), f.own, omega (arith, f.fit, e.2, c.loop-few.invariant.1))
 
 pub loop-few-smaller : goal.loop-few-smaller
 loop-few-smaller c = omega (arith, c.turn-next.ensures.place_lt_place.0, c.slide-there.ensures.others_value.1)
 
 pub loop-few-preserved : goal.loop-few-preserved
 loop-few-preserved c =
-    let slid : let a = c in let there = c.slide-there.result in Joining a.args.table.now a.args.entries.now (λ q. get_or c.slide-there.new.table q 0) there.own there.others there.place = let i = c in let f = i.loop-few.invariant.0 in c.slide-there.ensures.by_index _ _ f (source_id f (omega (arith, i.loop-few-test.true))) in
+    let there = c.slide-there.result in
+    let some = c.loop-few-test.true in
+    let f = c.loop-few.invariant.0 in
+    let slid : Joining c.args.table.now c.args.entries.now (λ q. get_or c.slide-there.new.table q 0) there.own there.others there.place = c.slide-there.ensures.by_index _ _ f (source_id f (omega (arith, some))) in
     let t = c.turn-next.ensures in
-    let d = c in
-    let i = d in
-    let e = d.slide-there.ensures.others_value in
-    let f = i.loop-few.invariant.0 in
-    let some = i.loop-few-test.true in (
-      t.by_index _ _ (slid) (rw e.0 (source_id f (omega (arith, some)))) (rw e.0 (source_length f (omega (arith, some)))),
-      t.place_lt_place.1 ∙ e.2 ∙ i.loop-few.invariant.1,
+    let e = c.slide-there.ensures.others_value in (
+      t.by_index _ _ slid (rw e.0 (source_id f (omega (arith, some)))) (rw e.0 (source_length f (omega (arith, some)))),
+      t.place_lt_place.1 ∙ e.2 ∙ c.loop-few.invariant.1,
     )
 
 pub shape_of-table : goal.shape_of-table

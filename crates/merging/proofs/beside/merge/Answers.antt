@@ -7,32 +7,25 @@ use Rattle.merging.proofs.beside.merge.Goals as goal
 
 pub returns-then-said-eq0 : goal.returns-then-said-eq0
 returns-then-said-eq0 c =
-    let v = c in
-    let a = v in
-    let n = v.count-comes.ensures.held_value in
+    let n = c.count-comes.ensures.held_value in
     let told = c.told-said.ensures in
     record {
-      value = told_is ((c.args.table.now)) ((c.args.entries.now)) _ _ _ _ refl n.0 n.1 told;
-      table_after = none_told ((c.args.table.now)) ((c.args.entries.now)) _ _ _ _ refl n.0 n.1 told a.requires.sound_table a.requires.sound_table_2 c.if-said-eq0.true;
+      value = told_is c.args.table.now c.args.entries.now _ _ _ _ refl n.0 n.1 told;
+      table_after = none_told c.args.table.now c.args.entries.now _ _ _ _ refl n.0 n.1 told c.requires.sound_table c.requires.sound_table_2 c.if-said-eq0.true;
     }
 
 pub fill-requires : goal.fill-requires
 fill-requires c =
-    let v = c in
-    let a = v in
-    let held = v.count-comes.ensures.own_value in
-    let n = v.count-comes.ensures.held_value in
-    let some = some_told ((c.args.table.now)) ((c.args.entries.now)) _ _ _ _ refl n.0 n.1 c.told-said.ensures c.if-said-eq0.false in
-    rw (held.0, held.1, n.0) (joining_start ((c.args.table.now)) ((c.args.entries.now)) _ a.requires.sound_table a.requires.sound_table_2 (omega (arith, some.0)) (λ q l. refl))
+    let held = c.count-comes.ensures.own_value in
+    let n = c.count-comes.ensures.held_value in
+    let some = some_told c.args.table.now c.args.entries.now _ _ _ _ refl n.0 n.1 c.told-said.ensures c.if-said-eq0.false in
+    rw (held.0, held.1, n.0) (joining_start c.args.table.now c.args.entries.now _ c.requires.sound_table c.requires.sound_table_2 (omega (arith, some.0)) (λ q l. refl))
 
 pub returns : goal.returns
 returns c =
-    let b = c in
-    let v = b in
-    let a = v in
-    let n = v.count-comes.ensures.held_value in
-    let told = b.told-said.ensures in
+    let n = c.count-comes.ensures.held_value in
+    let told = c.told-said.ensures in
     record {
-      value = told_is ((c.args.table.now)) ((c.args.entries.now)) _ _ _ _ refl n.0 n.1 told;
-      table_after = c.fill.ensures ∙ (some_told ((c.args.table.now)) ((c.args.entries.now)) _ _ _ _ refl n.0 n.1 told b.if-said-eq0.false).1;
+      value = told_is c.args.table.now c.args.entries.now _ _ _ _ refl n.0 n.1 told;
+      table_after = c.fill.ensures ∙ (some_told c.args.table.now c.args.entries.now _ _ _ _ refl n.0 n.1 told c.if-said-eq0.false).1;
     }

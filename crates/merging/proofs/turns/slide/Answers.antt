@@ -1,4 +1,4 @@
--- `merging::turns::slide`: each entry that moves on is a turn of the merge (`moves-on`).
+-- `merging::turns::slide`: each entry that moves on is a turn of the merge (`moves_on_law`).
 use Prim.Native.Nat.{◌+◌, ◌*◌, ◌-◌, ◌≤◌}
 use native.Mathlib.Omega.{arith}
 use mathlib.Core.Path.{◌≡◌, refl, ap, ◌∙◌}
@@ -10,9 +10,7 @@ pub loop-own-init : goal.loop-own-init
 loop-own-init c = (omega arith, omega arith, refl, (λ t s f ex. f))
 
 pub overflow_sub-own : goal.overflow_sub-own
-overflow_sub-own c =
-    let found : 1 ≤ c.loop-own.own = (c.above.ensures c.loop-own-test.true).0 in
-    found
+overflow_sub-own c = (c.above.ensures c.loop-own-test.true).0
 
 pub overflow_sub-place : goal.overflow_sub-place
 overflow_sub-place c =
@@ -42,23 +40,20 @@ loop-own-smaller c =
 pub loop-own-preserved : goal.loop-own-preserved
 loop-own-preserved c =
     let found : 1 ≤ c.loop-own.own = (c.above.ensures c.loop-own-test.true).0 in
-    let r = c in
-    let l = r in
-    let a = l in
-    let v = l.loop-own.invariant in
-    let own = l.loop-own.own - 1 in
-    let place = l.loop-own.place - 1 in
+    let v = c.loop-own.invariant in
+    let own = c.loop-own.own - 1 in
+    let place = c.loop-own.place - 1 in
     let put = c.put.ensures in
-    let e : 2 * l.loop-own.own - 2 ≡ 2 * own = omega arith in
-    let z : a.args.left.others ≡ a.args.left.others - 0 = omega arith in (
+    let e : 2 * c.loop-own.own - 2 ≡ 2 * own = omega arith in
+    let z : c.args.left.others ≡ c.args.left.others - 0 = omega arith in (
       omega arith,
       omega (arith, found),
       (ap length put) ∙ (simp length-set v.2),
       (λ t s f₀ ex.
           let f = v.3 t s f₀ ex in
-          let over = rw e at (r.above.ensures r.loop-own-test.true).1 in
+          let over = rw e at (c.above.ensures c.loop-own-test.true).1 in
           rw (put, z)
-          (settled f place (omega (arith, found)) _ _ _ (puts l.loop-own.table place _ _ (omega (arith, found))) own (a.args.left.others - 1) (omega (arith, found)) (omega arith) 1 0
+          (settled f place (omega (arith, found)) _ _ _ (puts c.loop-own.table place _ _ (omega (arith, found))) own (c.args.left.others - 1) (omega (arith, found)) (omega arith) 1 0
           (moves_on_law _ _ _ _ _ _ _ over (f.so_far.front (2 * own) (omega (arith, found))) (f.so_far.front (2 * own + 1) (omega (arith, found))) ex))),
     )
 
@@ -67,8 +62,7 @@ shape_of-table c = c.loop-own.invariant.2
 
 pub returns : goal.returns
 returns c =
-    let l = c in
     record {
-      by_index = (λ t s f ex. l.loop-own.invariant.3 t s f ex);
-      others_value = (refl, omega (arith, l.loop-own.invariant.0, l.loop-own.invariant.1), l.loop-own.invariant.2);
+      by_index = (λ t s f ex. c.loop-own.invariant.3 t s f ex);
+      others_value = (refl, omega (arith, c.loop-own.invariant.0, c.loop-own.invariant.1), c.loop-own.invariant.2);
     }

@@ -8,24 +8,21 @@ use Rattle.merging.proofs.turns.turn.Goals as goal
 
 pub returns-then-own-eq0 : goal.returns-then-own-eq0
 returns-then-own-eq0 c =
-    let a = c in
     let none = c.if-own-eq0.true in
     let put = c.put.ensures in record {
       by_index = (λ t s f ex en.
-          rw put (last_ones f (a.args.left.place - 1) (omega arith) _ _ _ (puts a.args.table.now (a.args.left.place - 1) _ _ (omega arith)) none (a.args.left.others - 1) (omega arith) ex en));
+          rw put (last_ones f (c.args.left.place - 1) (omega arith) _ _ _ (puts c.args.table.now (c.args.left.place - 1) _ _ (omega arith)) none (c.args.left.others - 1) (omega arith) ex en));
       place_lt_place = (omega arith, (ap length put) ∙ (simp length-set));
     }
 
 pub returns : goal.returns
 returns c =
-    let b = c in
-    let a = b in
-    let some = b.if-own-eq0.false in
-    let e = b.settle-now.ensures in
+    let some = c.if-own-eq0.false in
+    let e = c.settle-now.ensures in
     let put = c.put-2.ensures in record {
       by_index = (λ t s f ex en.
           rw put
-          (settled f (a.args.left.place - 1) (omega arith) _ _ _ (puts a.args.table.now (a.args.left.place - 1) _ _ (omega arith)) (a.args.left.own - 1) (a.args.left.others - 1) (omega arith) (omega arith) b.settle-now.result.own b.settle-now.result.others
+          (settled f (c.args.left.place - 1) (omega arith) _ _ _ (puts c.args.table.now (c.args.left.place - 1) _ _ (omega arith)) (c.args.left.own - 1) (c.args.left.others - 1) (omega arith) (omega arith) c.settle-now.result.own c.settle-now.result.others
           (outcome (record { over = e.id_value; both = e.id_value_2; under = e.id_value_3 }) _ _ _ _ (own_id f (omega arith)) (own_length f (omega arith)) ex en)));
       place_lt_place = (omega arith, (ap length put) ∙ (simp length-set));
     }

@@ -20,11 +20,8 @@ overflow_sub-others c = omega (arith, c.settle-now.ensures.own_bound)
 
 pub loop-k-preserved : goal.loop-k-preserved
 loop-k-preserved c =
-    let b = c in
-    let e = b.settle-now.ensures in
-    let l = b in
-    let s = l in
-    let v = l.loop-k.invariant in
+    let e = c.settle-now.ensures in
+    let v = c.loop-k.invariant in
     let put = c.put.ensures in (
       omega arith,
       omega arith,
@@ -36,19 +33,19 @@ loop-k-preserved c =
       (λ ws wide f₀.
           let f = v.7 ws wide f₀ in
           let o : Settling _ _ _ _ _ _ _ _ _ _ _ _ = record { over = e.id_value; both = e.id_value_2; under = e.id_value_3 } in
-          let a = ahead o (part_at ws s.args.to wide) (part_at ws s.args.from wide) l.loop-k.own l.loop-k.others (omega arith) (omega arith) f.1 f.2 f.3 f.4 in (
+          let a = ahead o (part_at ws c.args.to wide) (part_at ws c.args.from wide) c.loop-k.own c.loop-k.others (omega arith) (omega arith) f.1 f.2 f.3 f.4 in (
             rw put
-                (settled f.0 (l.loop-k.place - 1) (omega arith) _ _ (l.loop-k.own - 1) (l.loop-k.others - 1) (omega arith) (omega arith) b.settle-now.result.own b.settle-now.result.others
+                (settled f.0 (c.loop-k.place - 1) (omega arith) _ _ (c.loop-k.own - 1) (c.loop-k.others - 1) (omega arith) (omega arith) c.settle-now.result.own c.settle-now.result.others
                 (outcome o _ _ _ _ f.1 (own_length f.0 (omega arith)) f.3 (source_length f.0 (omega arith)))),
             a.0,
-            own_before f.0 (l.loop-k.own - b.settle-now.result.own) (omega (arith, e.own_bound)) (omega arith),
+            own_before f.0 (c.loop-k.own - c.settle-now.result.own) (omega (arith, e.own_bound)) (omega arith),
             a.1,
-            source_before f.0 (l.loop-k.others - b.settle-now.result.others) (omega (arith, e.own_bound)) (omega arith),
+            source_before f.0 (c.loop-k.others - c.settle-now.result.others) (omega (arith, e.own_bound)) (omega arith),
           )),
     )
 
 pub returns : goal.returns
 returns c = let l = c.loop-k in record {
-      by_index = (λ ws wide f. (l.invariant.7 ws wide f).0);
-      place_lt_place = omega (arith, l.invariant);
-    }
+  by_index = (λ ws wide f. (l.invariant.7 ws wide f).0);
+  place_lt_place = omega (arith, l.invariant);
+}

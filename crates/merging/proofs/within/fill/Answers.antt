@@ -12,17 +12,14 @@ loop-others-init c = c.requires
 
 pub onward-next-requires : goal.onward-next-requires
 onward-next-requires c =
-    let l = c in
-    let f = l.loop-others.invariant in
+    let f = c.loop-others.invariant in
     record {
       le_others = (omega arith, f.joining.so_far.other, f.joining.so_far.own);
       place_bound = (place_in f, table_in f, fits_others f);
     }
 
 pub loop-others-preserved : goal.loop-others-preserved
-loop-others-preserved c =
-    let l = c in
-    c.onward-next.ensures.by_index _ _ refl l.loop-others.invariant
+loop-others-preserved c = c.onward-next.ensures.by_index _ _ refl c.loop-others.invariant
 
 pub shape_of-words : goal.shape_of-words
 shape_of-words c = c.loop-others.invariant.size

@@ -11,9 +11,7 @@ loop-k-init c = (omega arith, omega arith, omega arith, omega arith, refl, (λ w
 
 pub loop-k-preserved : goal.loop-k-preserved
 loop-k-preserved c =
-    let b = c in
-    let l = b in
-    let v = l.loop-k.invariant in
+    let v = c.loop-k.invariant in
     let put = c.put.ensures in (
       omega arith,
       omega arith,
@@ -22,14 +20,14 @@ loop-k-preserved c =
       (ap length put) ∙ (simp length-set v.4),
       (λ ws wide f₀ e.
           let f = v.5 ws wide f₀ e in
-          let i : l.args.left.own - 1 - l.loop-k.k ≡ l.loop-k.own - 1 = turned_to l.loop-k.own l.loop-k.k _ v.1 in
-          let j : l.args.left.others - 1 - l.loop-k.k ≡ l.loop-k.others - 1 = turned_to l.loop-k.others l.loop-k.k _ v.2 in
-          let live : (1 ≤ l.loop-k.own) × (1 ≤ l.loop-k.others) × (1 ≤ l.loop-k.place) = (omega arith, omega arith, omega arith) in
-          rw put (common f (l.loop-k.place - 1) (omega (arith, live.2)) _ _ live.0 live.1 (rw (i, j) at (e l.loop-k.k (omega arith))) refl b.join-most.ensures)),
+          let i : c.args.left.own - 1 - c.loop-k.k ≡ c.loop-k.own - 1 = turned_to c.loop-k.own c.loop-k.k _ v.1 in
+          let j : c.args.left.others - 1 - c.loop-k.k ≡ c.loop-k.others - 1 = turned_to c.loop-k.others c.loop-k.k _ v.2 in
+          let live : (1 ≤ c.loop-k.own) × (1 ≤ c.loop-k.others) × (1 ≤ c.loop-k.place) = (omega arith, omega arith, omega arith) in
+          rw put (common f (c.loop-k.place - 1) (omega (arith, live.2)) _ _ live.0 live.1 (rw (i, j) at (e c.loop-k.k (omega arith))) refl c.join-most.ensures)),
     )
 
 pub returns : goal.returns
 returns c = let l = c.loop-k in record {
-      by_index = l.invariant.5;
-      place_lt_place = omega (arith, l.invariant);
-    }
+  by_index = l.invariant.5;
+  place_lt_place = omega (arith, l.invariant);
+}

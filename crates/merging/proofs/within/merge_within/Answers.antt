@@ -9,33 +9,26 @@ use Rattle.merging.proofs.within.merge_within.Goals as goal
 
 pub returns-then-said-eq0 : goal.returns-then-said-eq0
 returns-then-said-eq0 c =
-    let room : c.args.wide / 2 ≡ capacity ((part_at c.args.words.now c.args.to c.args.wide)) = rw (part_length c.args.words.now c.args.to c.args.wide c.requires.apart.fits_to) in
-    let v = c in
-    let a = v in
-    let n = v.survey-comes.ensures.held_value in
+    let room : c.args.wide / 2 ≡ capacity (part_at c.args.words.now c.args.to c.args.wide) = rw (part_length c.args.words.now c.args.to c.args.wide c.requires.apart.fits_to) in
+    let n = c.survey-comes.ensures.held_value in
     let told = c.told-said.ensures in record {
-      value = told_is ((part_at c.args.words.now c.args.to c.args.wide)) ((part_at c.args.words.now c.args.from c.args.wide)) _ _ _ _ (room) n.0 n.1 told;
-      words_after = own_part a.args.words.now a.args.to a.args.wide ∙ ap (with_part a.args.words.now a.args.to a.args.wide) (none_told ((part_at c.args.words.now c.args.to c.args.wide)) ((part_at c.args.words.now c.args.from c.args.wide)) _ _ _ _ (room) n.0 n.1 told a.requires.sound_table a.requires.sound_table_2 c.if-said-eq0.true);
+      value = told_is (part_at c.args.words.now c.args.to c.args.wide) (part_at c.args.words.now c.args.from c.args.wide) _ _ _ _ room n.0 n.1 told;
+      words_after = own_part c.args.words.now c.args.to c.args.wide ∙ ap (with_part c.args.words.now c.args.to c.args.wide) (none_told (part_at c.args.words.now c.args.to c.args.wide) (part_at c.args.words.now c.args.from c.args.wide) _ _ _ _ room n.0 n.1 told c.requires.sound_table c.requires.sound_table_2 c.if-said-eq0.true);
     }
 
 pub fill-requires : goal.fill-requires
 fill-requires c =
-    let room : c.args.wide / 2 ≡ capacity ((part_at c.args.words.now c.args.to c.args.wide)) = rw (part_length c.args.words.now c.args.to c.args.wide c.requires.apart.fits_to) in
-    let v = c in
-    let a = v in
-    let held = v.survey-comes.ensures.own_value in
-    let n = v.survey-comes.ensures.held_value in
-    let some = some_told ((part_at c.args.words.now c.args.to c.args.wide)) ((part_at c.args.words.now c.args.from c.args.wide)) _ _ _ _ (room) n.0 n.1 c.told-said.ensures c.if-said-eq0.false in
-    rw (held.0, held.1, n.0) (filling_start a.args.words.now a.args.to a.args.from a.args.wide a.requires.apart a.requires.sound_table a.requires.sound_table_2 some.0)
+    let room : c.args.wide / 2 ≡ capacity (part_at c.args.words.now c.args.to c.args.wide) = rw (part_length c.args.words.now c.args.to c.args.wide c.requires.apart.fits_to) in
+    let held = c.survey-comes.ensures.own_value in
+    let n = c.survey-comes.ensures.held_value in
+    let some = some_told (part_at c.args.words.now c.args.to c.args.wide) (part_at c.args.words.now c.args.from c.args.wide) _ _ _ _ room n.0 n.1 c.told-said.ensures c.if-said-eq0.false in
+    rw (held.0, held.1, n.0) (filling_start c.args.words.now c.args.to c.args.from c.args.wide c.requires.apart c.requires.sound_table c.requires.sound_table_2 some.0)
 
 pub returns : goal.returns
 returns c =
-    let room : c.args.wide / 2 ≡ capacity ((part_at c.args.words.now c.args.to c.args.wide)) = rw (part_length c.args.words.now c.args.to c.args.wide c.requires.apart.fits_to) in
-    let b = c in
-    let v = b in
-    let a = v in
-    let n = v.survey-comes.ensures.held_value in
-    let told = b.told-said.ensures in record {
-      value = told_is ((part_at c.args.words.now c.args.to c.args.wide)) ((part_at c.args.words.now c.args.from c.args.wide)) _ _ _ _ (room) n.0 n.1 told;
-      words_after = c.fill.ensures ∙ ap (with_part a.args.words.now a.args.to a.args.wide) (some_told ((part_at c.args.words.now c.args.to c.args.wide)) ((part_at c.args.words.now c.args.from c.args.wide)) _ _ _ _ (room) n.0 n.1 told b.if-said-eq0.false).1;
+    let room : c.args.wide / 2 ≡ capacity (part_at c.args.words.now c.args.to c.args.wide) = rw (part_length c.args.words.now c.args.to c.args.wide c.requires.apart.fits_to) in
+    let n = c.survey-comes.ensures.held_value in
+    let told = c.told-said.ensures in record {
+      value = told_is (part_at c.args.words.now c.args.to c.args.wide) (part_at c.args.words.now c.args.from c.args.wide) _ _ _ _ room n.0 n.1 told;
+      words_after = c.fill.ensures ∙ ap (with_part c.args.words.now c.args.to c.args.wide) (some_told (part_at c.args.words.now c.args.to c.args.wide) (part_at c.args.words.now c.args.from c.args.wide) _ _ _ _ room n.0 n.1 told c.if-said-eq0.false).1;
     }

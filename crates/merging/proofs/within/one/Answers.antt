@@ -1,4 +1,4 @@
--- `merging::within::one`: the table's part is lent on (`lent-on`), and comes back a turn further (`came-back`).
+-- `merging::within::one`: the table's part is lent on (`lent_on`), and comes back a turn further (`came_back`).
 use native.Mathlib.Omega.{arith}
 use Rattle.merging.proofs.Inside.{source_id, source_length, lent_on, came_back}
 use Rattle.merging.proofs.within.one.Goals as goal

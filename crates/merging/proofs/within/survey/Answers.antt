@@ -4,10 +4,9 @@ use Rattle.merging.proofs.within.survey.Goals as goal
 
 pub count-requires : goal.count-requires
 count-requires c =
-    let a = c in
     record {
-      sound_table = rw (as_long a.args.to a.args.wide) a.requires.sound_table;
-      sound_table_2 = rw (as_long a.args.from a.args.wide) a.requires.sound_table_2;
+      sound_table = rw (as_long c.args.to c.args.wide) c.requires.sound_table;
+      sound_table_2 = rw (as_long c.args.from c.args.wide) c.requires.sound_table_2;
     }
 
 pub returns : goal.returns

@@ -12,11 +12,7 @@ returns-then-table-lt2 c =
     sym (found_none w _ (λ i p q. omega (arith, w.room, c.if-table-lt2.true)))
 
 pub returns-then-table-near : goal.returns-then-table-near
-returns-then-table-near c =
-    let a = c in
-    span_found (laid_of M _ a.requires) _ _ a.nearest-near.ensures c.if-table-near.true
+returns-then-table-near c = span_found (laid_of M _ c.requires) _ _ c.nearest-near.ensures c.if-table-near.true
 
 pub returns-else-table-near : goal.returns-else-table-near
-returns-else-table-near c =
-    let a = c in
-    span_none (laid_of M _ a.requires) _ _ a.nearest-near.ensures c.if-table-near.false
+returns-else-table-near c = span_none (laid_of M _ c.requires) _ _ c.nearest-near.ensures c.if-table-near.false

@@ -28,41 +28,37 @@ loop-k-init c =
     let r = rw (one_shifted _ h.upper_bound) at c.reaches.ensures in (
       h.upper_bound,
       elim c.if-reaches.branch [
-        then-reaches v ↦ rw (v.base-is, one_shifted _ h.upper_bound) (first_up w _ _ _ (omega arith) (omega (arith, w.room)) h.result_bound h.n_bound (sym r ∙ v.if-reaches.true))
-      | else-reaches v ↦ rw v.base-is (first_stay w _ _ _ (omega arith) (omega (arith, w.room)) h.result_bound h.n_bound (sym r ∙ v.if-reaches.false))
+        | then-reaches v ↦ rw (v.base-is, one_shifted _ h.upper_bound) (first_up w _ _ _ (omega arith) (omega (arith, w.room)) h.result_bound h.n_bound (sym r ∙ v.if-reaches.true))
+        | else-reaches v ↦ rw v.base-is (first_stay w _ _ _ (omega arith) (omega (arith, w.room)) h.result_bound h.n_bound (sym r ∙ v.if-reaches.false))
       ],
     )
 
 pub overflow_add-base : goal.overflow_add-base
 overflow_add-base c =
-    let l = c in
-    let w = laid_of M _ l.requires.sound_table in
-    let g : l.loop-k.k - 1 < 64 = omega (arith, l.loop-k.invariant.0) in
-    let i = inside w _ _ _ c.loop-k-test.true l.loop-k.invariant.1 in
+    let w = laid_of M _ c.requires.sound_table in
+    let g : c.loop-k.k - 1 < 64 = omega (arith, c.loop-k.invariant.0) in
+    let i = inside w _ _ _ c.loop-k-test.true c.loop-k.invariant.1 in
     rw (one_shifted _ g) (record { fits = search rules })
 
 pub reaches-up-requires : goal.reaches-up-requires
 reaches-up-requires c =
-    let l = c in
-    let w = laid_of M _ l.requires.sound_table in
-    let g : l.loop-k.k - 1 < 64 = omega (arith, l.loop-k.invariant.0) in
-    rw (one_shifted _ g) (inside w _ _ _ c.loop-k-test.true l.loop-k.invariant.1)
+    let w = laid_of M _ c.requires.sound_table in
+    let g : c.loop-k.k - 1 < 64 = omega (arith, c.loop-k.invariant.0) in
+    rw (one_shifted _ g) (inside w _ _ _ c.loop-k-test.true c.loop-k.invariant.1)
 
 pub overflow_add-base-in-loop-k : goal.overflow_add-base-in-loop-k
 overflow_add-base-in-loop-k c =
-    let l = c in
-    let w = laid_of M _ l.requires.sound_table in
-    let g : l.loop-k.k - 1 < 64 = omega (arith, l.loop-k.invariant.0) in
-    let i = inside w _ _ _ c.loop-k-test.true l.loop-k.invariant.1 in
-    let b = bit_le c.reaches-up.result (2 ^ (l.loop-k.k - 1)) in
+    let w = laid_of M _ c.requires.sound_table in
+    let g : c.loop-k.k - 1 < 64 = omega (arith, c.loop-k.invariant.0) in
+    let i = inside w _ _ _ c.loop-k-test.true c.loop-k.invariant.1 in
+    let b = bit_le c.reaches-up.result (2 ^ (c.loop-k.k - 1)) in
     rw (bit_shifted c.reaches-up.result _ g) (record { fits = search rules })
 
 pub loop-k-preserved : goal.loop-k-preserved
 loop-k-preserved c =
-    let l = c in
-    let w = laid_of M _ l.requires.sound_table in
-    let i = l.loop-k.invariant in
-    let g : l.loop-k.k - 1 < 64 = omega (arith, i.0) in
+    let w = laid_of M _ c.requires.sound_table in
+    let i = c.loop-k.invariant in
+    let g : c.loop-k.k - 1 < 64 = omega (arith, i.0) in
     let r = rw (one_shifted _ g) at c.reaches-up.ensures in
     (g, rw (bit_shifted c.reaches-up.result _ g) (next w _ _ _ c.loop-k-test.true i.1 _ r))
 

@@ -9,9 +9,7 @@ pub loop-i-init : goal.loop-i-init
 loop-i-init c = (search rules, move_start _ _)
 
 pub loop-i-preserved : goal.loop-i-preserved
-loop-i-preserved c =
-    let l = c in
-    (omega arith, move_more _ _ _ l.loop-i.i _ l.loop-i.invariant.1 l.requires l.loop-i.invariant.0 (omega arith))
+loop-i-preserved c = (omega arith, move_more _ _ _ c.loop-i.i _ c.loop-i.invariant.1 c.requires c.loop-i.invariant.0 (omega arith))
 
 pub returns : goal.returns
 returns c =

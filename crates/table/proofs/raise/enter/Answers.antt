@@ -11,19 +11,16 @@ returns-then-table-used c =
 
 pub insert-requires : goal.insert-requires
 insert-requires c =
-    let a = c in
     record {
-      sound_table = a.requires.sound_table;
+      sound_table = c.requires.sound_table;
       used_value = c.held-used.ensures;
       used_bound = omega (arith, c.if-table-used.false);
-      id_value = a.requires.id_value;
+      id_value = c.requires.id_value;
     }
 
 pub returns : goal.returns
 returns c =
-    let e = c in
-    let a = e in
-    let r = enter_roomy a.args.table.now a.args.id a.args.length a.requires.id_value.0 a.requires.id_value.1 (omega (arith, e.if-table-used.false, e.held-used.ensures)) in
+    let r = enter_roomy c.args.table.now c.args.id c.args.length c.requires.id_value.0 c.requires.id_value.1 (omega (arith, c.if-table-used.false, c.held-used.ensures)) in
     record {
       value = r.0;
       table_after = c.insert.ensures ∙ r.1;

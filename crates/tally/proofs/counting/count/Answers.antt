@@ -6,7 +6,7 @@ use Rattle.tally.proofs.counting.count.Goals as goal
 
 pub returns : goal.returns
 returns c =
-    let a = c in record {
+    record {
       own_value = (c.held-used.ensures, c.held-all.ensures);
-      held_value = walk_end (laid_of M _ a.requires.sound_table) (laid_of M _ a.requires.sound_table_2) _ _ _ _ c.walk-end.ensures.walk c.walk-end.ensures.entries_bound;
+      held_value = walk_end (laid_of M _ c.requires.sound_table) (laid_of M _ c.requires.sound_table_2) _ _ _ _ c.walk-end.ensures.walk c.walk-end.ensures.entries_bound;
     }

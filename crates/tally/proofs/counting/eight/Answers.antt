@@ -6,23 +6,16 @@ use Rattle.tally.proofs.Joint.{turns_none, turned, turns_done}
 use Rattle.tally.proofs.counting.eight.Goals as goal
 
 pub loop-k-init : goal.loop-k-init
-loop-k-init c =
-    let a = c in
-    (turns_none (laid_of M _ a.requires.sound_table) (laid_of M _ a.requires.sound_table_2) a.requires.walk, omega arith)
+loop-k-init c = (turns_none (laid_of M _ c.requires.sound_table) (laid_of M _ c.requires.sound_table_2) c.requires.walk, omega arith)
 
 pub loop-k-preserved : goal.loop-k-preserved
 loop-k-preserved c =
-    let turn = c in
-    let l = turn in
-    let a = l in
     let p = c.pass-now in
-    (turned (laid_of M _ a.requires.sound_table) (laid_of M _ a.requires.sound_table_2) _ _ _ _ _ _ _ _ _ l.loop-k.invariant.0 (omega (arith, turn)) (omega (arith, turn)) p.result.own p.result.others p.result.mine p.result.id p.result.rises p.ensures.own_value p.ensures.own_value_2 p.ensures.own_value_3 p.ensures.own_bound.2, omega (arith, turn.loop-k-test.true))
+    (turned (laid_of M _ c.requires.sound_table) (laid_of M _ c.requires.sound_table_2) _ _ _ _ _ _ _ _ _ c.loop-k.invariant.0 (omega (arith, c)) (omega (arith, c)) p.result.own p.result.others p.result.mine p.result.id p.result.rises p.ensures.own_value p.ensures.own_value_2 p.ensures.own_value_3 p.ensures.own_bound.2, omega (arith, c.loop-k-test.true))
 
 pub returns : goal.returns
 returns c =
-    let l = c in
-    let a = l in
     record {
-      walk_2 = turns_done (laid_of M _ a.requires.sound_table) (laid_of M _ a.requires.sound_table_2) 8 l.loop-k.invariant.0 (omega arith);
+      walk_2 = turns_done (laid_of M _ c.requires.sound_table) (laid_of M _ c.requires.sound_table_2) 8 c.loop-k.invariant.0 (omega arith);
       own_le_own = omega arith;
     }

@@ -6,17 +6,14 @@ use Rattle.tally.proofs.Joint.{walk_start}
 use Rattle.tally.proofs.counting.walk.Goals as goal
 
 pub loop-others-init : goal.loop-others-init
-loop-others-init c =
-    let a = c in
-    rw a.requires.used_value.0 (walk_start (laid_of M _ a.requires.sound_table) (laid_of M _ a.requires.sound_table_2))
+loop-others-init c = rw c.requires.used_value.0 (walk_start (laid_of M _ c.requires.sound_table) (laid_of M _ c.requires.sound_table_2))
 
 pub onward-next-requires : goal.onward-next-requires
 onward-next-requires c =
-    let a = c in
     record {
-      sound_table = a.requires.sound_table;
-      sound_table_2 = a.requires.sound_table_2;
-      used_value = a.requires.used_value;
+      sound_table = c.requires.sound_table;
+      sound_table_2 = c.requires.sound_table_2;
+      used_value = c.requires.used_value;
       others_bound = omega arith;
       walk = c.loop-others.invariant;
     }
@@ -29,6 +26,6 @@ loop-others-preserved c = c.onward-next.ensures.walk_2
 
 pub returns : goal.returns
 returns c = record {
-      walk = c.loop-others.invariant;
-      entries_bound = omega arith;
-    }
+  walk = c.loop-others.invariant;
+  entries_bound = omega arith;
+}

@@ -34,7 +34,7 @@ pub returns : goal.returns
 returns c =
     let a = c.args in
     let p =
-        passed a.mine a.after a.id a.next c.if-on.result c.if-other_on.result (ltb a.kept a.length)
-        (elim c.if-on.branch [ then-on w ↦ rw (le-leb _ _ w.if-on.true) w.result-is | else-on w ↦ rw (lt-leb _ _ w.if-on.false) w.result-is ])
-        (elim c.if-other_on.branch [ then-other_on w ↦ rw (le-leb _ _ w.if-other_on.true) w.result-is | else-other_on w ↦ rw (lt-leb _ _ w.if-other_on.false) w.result-is ]) in
+    passed a.mine a.after a.id a.next c.if-on.result c.if-other_on.result (ltb a.kept a.length)
+    (elim c.if-on.branch [ then-on w ↦ rw (le-leb _ _ w.if-on.true) w.result-is | else-on w ↦ rw (lt-leb _ _ w.if-on.false) w.result-is ])
+    (elim c.if-other_on.branch [ then-other_on w ↦ rw (le-leb _ _ w.if-other_on.true) w.result-is | else-other_on w ↦ rw (lt-leb _ _ w.if-other_on.false) w.result-is ]) in
     record { own_value = p.0; own_value_2 = p.1.0; own_value_3 = p.1.1.0; own_bound = p.1.1.1 }
