@@ -18,8 +18,8 @@ loop-i-preserved c =
     let eight : length c.args.slots ≡ 8 = search rules in
     let l = c.loop-i in
     elim c.if-not-is_free.branch [
-      then-not-is_free w ↦ (let e : waiting (drop l.i c.args.slots) ≡ suc (waiting (drop (l.i + 1) c.args.slots)) = waiting_from c.args.slots l.i false (omega (arith, eight)) (sym c.is_free.ensures ∙ w.if-not-is_free.true) in (omega arith, omega (arith, w.n-is), omega (arith, w.n-is, e, l.invariant.2)))
-    | else-not-is_free w ↦ (let e : waiting (drop l.i c.args.slots) ≡ waiting (drop (l.i + 1) c.args.slots) = waiting_from c.args.slots l.i true (omega (arith, eight)) (sym c.is_free.ensures ∙ w.if-not-is_free.false) in (omega arith, omega (arith, w.n-is), omega (arith, w.n-is, e, l.invariant.2)))
+      | then-not-is_free w ↦ (let e : waiting (drop l.i c.args.slots) ≡ suc (waiting (drop (l.i + 1) c.args.slots)) = waiting_from c.args.slots l.i false (omega (arith, eight)) (sym c.is_free.ensures ∙ w.if-not-is_free.true) in (omega arith, omega (arith, w.n-is), omega (arith, w.n-is, e, l.invariant.2)))
+      | else-not-is_free w ↦ (let e : waiting (drop l.i c.args.slots) ≡ waiting (drop (l.i + 1) c.args.slots) = waiting_from c.args.slots l.i true (omega (arith, eight)) (sym c.is_free.ensures ∙ w.if-not-is_free.false) in (omega arith, omega (arith, w.n-is), omega (arith, w.n-is, e, l.invariant.2)))
     ]
 
 pub returns : goal.returns

@@ -11,11 +11,11 @@ write_ledger-next-requires c = let s = c.args in
 
 pub write_sites-requires : goal.write_sites-requires
 write_sites-requires c = let s = c.args in record {
-      three_tables = c.requires.0;
-      words_in_bounds = left_fits (left_next (ledger_lines s.counts c.count_waiting.result) (site_lines 3 0 s.words)
+  three_tables = c.requires.0;
+  words_in_bounds = left_fits (left_next (ledger_lines s.counts c.count_waiting.result) (site_lines 3 0 s.words)
       (left_as (end_pieces s.words s.slots s.counts c.count_waiting.result c.count_waiting.ensures) (left_all s.out.now s.place (ending s.words s.slots s.counts) c.requires.1))
       c.write_ledger-next.ensures);
-    }
+}
 
 pub returns : goal.returns
 returns c = let s = c.args in
