@@ -1,4 +1,4 @@
-// The function that is lent all three things. It decides nothing: what is lent to be read is seen by value, and a covered function is lent the words.
+// The function that is lent all three things. It decides nothing: what is lent to be read is seen by value, and another function is lent the words.
 ghost use Rattle.rules.specs.meaning.States.{lent};
 ghost use Rattle.rules.specs.meaning.Events.{absorbs, Happened};
 

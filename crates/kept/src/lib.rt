@@ -1,4 +1,4 @@
-// A small run kept by value: 48 words, 8 slots and a ledger, for programs that make the state themselves. Whoever calls these needs no proof by hand.
+// A small run kept by value: 48 words, 8 slots and a ledger, for programs that make the state themselves.
 #![tactic(auto)]
 
 ghost use Rattle.std.specs.Prelude.{◌≡◌, replicate};

@@ -1,4 +1,4 @@
--- The links of a run one after the other, as the loops go over them, and that a loop which goes so does what `overLinks` of `rules` says. The contracts of `first_link`, `next_to` and `next_link` cite the order, and no public contract does.
+-- The links of a run one after the other, as the loops go over them, and that a loop which goes so does what `over_rows` of `rules` says. The contracts of `first_link`, `next_to` and `next_link` cite the order, and no public contract does.
 --     at_first, done_next, at_end    what was done on the way to a link: nothing, one link more, all
 --     stands_first, stands_next      a loop stands at the link of two different sites, or at the end.        further    each turn brings it nearer the end
 -- Assumes nothing.

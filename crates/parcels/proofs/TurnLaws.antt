@@ -1,7 +1,7 @@
 -- What the turns come to: all of them make the scan that `rules` defines, and each free slot stored is one more that is cleared.
 --     look_by_law      `look_of`, once its tests are known
 --     after        what a scan is that starts at s, with the slots ps from the number `at` on: one `look_of` after another
---     start        what is known before any slot is seen.        scanned      from there, the turns make `scanOf`
+--     start        what is known before any slot is seen.        scanned      from there, the turns make `scan_of`
 --     one_turn     the slots from i on are the slot i and those from i + 1 on.        all_seen     none is left
 --     fewer        a turn counts at most one
 --     clear_none   no slot is cleared.        clear_one    one more slot is cleared.        clear_all    as many as there are to clear is as many as are asked for.        length_cleared   no slot comes or goes

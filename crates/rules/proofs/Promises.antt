@@ -290,7 +290,7 @@ pub a_number_has_one_form : (n : ℕ) (bs rest : List ℕ) → n < 2 ^ 64 → (r
 a_number_has_one_form n bs rest h = (Leb.leb_read n rest h, λ e. (Leb.read_leb_law bs n rest e).0)
 
 -- "Absorbing a group's bytes at a site is all or none": accepted, every entry is joined in there and no other length changes; refused, by
--- `refused-operation-writes-nothing`, none is. "the ledger doesn't count them": it and the slots stay
+-- `refused_operation_writes_nothing`, none is. "the ledger doesn't count them": it and the slots stay
 module _ (run : Run) (s : State) (k : ℕ) (bytes : List ℕ) where
   pub absorb_is_the_papers : refusal_for run s (absorbs k bytes) ≡ 0 → (j e : ℕ)
       → length_in run (after_event run s (absorbs k bytes)) j e ≡ cond (eqb k j) (join (length_in run s j e) (length_of (entries_in bytes) e)) (length_in run s j e)
@@ -305,7 +305,7 @@ module _ (run : Run) (s : State) (k : ℕ) (bytes : List ℕ) where
   absorb_leaves_the_ledger = Absorbed.absorb_leaves run s k bytes
 
 -- ---- request 6: "Two shifts repaired the same three sites in different orders and asked whether that can matter." Where there is room it cannot, and there is room
--- "where the ids of all tables and groups named fit it together": `fitTogether`. Each merge and absorption named is accepted then
+-- "where the ids of all tables and groups named fit it together": `fit_together`. Each merge and absorption named is accepted then
 module _ (c : ℕ) where
   -- "For tables of one capacity ..: merging a table with an equal one changes nothing", and no length rises. One table's ids always fit it
   pub an_equal_table_changes_nothing : (a : List ℕ) → TableOf c a → (merge_answer a a ≡ answer accepted 0) × (merge_table a a ≡ a)
@@ -342,7 +342,7 @@ module _ (c : ℕ) where
   any_order_or_twice = Repairs.any_order c
 
 -- the same of a run's operations: two lists of repairs, each of them a merge of one site into another or a group absorbed at a site, leave the same words, slots and
--- ledger. It is said of a sound state, as is each that a run comes to (`states-stay-sound`), with a ledger of 256 entries, as its type has it
+-- ledger. It is said of a sound state, as is each that a run comes to (`states_stay_sound`), with a ledger of 256 entries, as its type has it
 module _ (run : Run) (s : State) (sound : StateSound run s) (whole : length s.ledger.pairs ≡ 256) where
   -- all of one site, where the same set of entries stands in the tables and groups that either list names
   pub one_site_in_any_order : (k : ℕ) (xs ys : List Repair) → are_proper run xs ≡ true → are_proper run ys ≡ true → all_at k xs ≡ true → all_at k ys ≡ true
@@ -365,10 +365,10 @@ module _ (run : Run) (s : State) (sound : StateSound run s) (whole : length s.le
       → OneEnd run s xs ys
   all_sites_in_any_order = Orders.any_order_everywhere run s sound whole
 
--- ---- request 7: "Add a single operation: site 0 takes in the others in rising order, then each other site takes in site 0." A round is those merges, `roundMerges`
+-- ---- request 7: "Add a single operation: site 0 takes in the others in rising order, then each other site takes in site 0." A round is those merges, `round_merges`
 module _ (run : Run) (s : State) where
-  -- "If the distinct ids at all sites are at most C .. Otherwise it is refused with 8": exactly so in a sound state, as is each that a run comes to (`states-stay-sound`),
-  -- and in any other with 1 or 2. Refused, by `refused-operation-writes-nothing`, it writes nothing
+  -- "If the distinct ids at all sites are at most C .. Otherwise it is refused with 8": exactly so in a sound state, as is each that a run comes to (`states_stay_sound`),
+  -- and in any other with 1 or 2. Refused, by `refused_operation_writes_nothing`, it writes nothing
   pub a_round_is_refused_for_room_alone : StateSound run s → refusal_for run s round ≡ cond (fit_together run.capacity (all_tables run s.words)) 0 8
   a_round_is_refused_for_room_alone = Rounds.round_refused run s
 
@@ -424,7 +424,7 @@ module _ (run : Run) (s : State) (asks given : List ℕ) (left : State) (said : 
   refused_burst_writes_nothing = Bursts.refused_burst run s asks given left said
 
 -- ---- "Prove that two results which both satisfy it are equal": where a contract is a record. Every other one is an equation for the result and one for
--- each thing lent, and then it is `one-outcome`
+-- each thing lent, and then it is `one_outcome`
 pub one_outcome : {A B : Type 0} {result r r' : A} {left now now' : B} → (r ≡ result) × (now ≡ left) → (r' ≡ result) × (now' ≡ left) → (r ≡ r') × (now ≡ now')
 one_outcome = Determined.one_outcome
 

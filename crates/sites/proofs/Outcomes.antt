@@ -96,7 +96,7 @@ module _ (run : Run) (ws : List ℕ) (ss : List Parcel) (l : Ledger) (whole : le
     state = rw (e, f, set_out ss (length ss) no_parcel (le_refl (length ss)), unbooked l whole) refl;
   }
 
--- what is sound is ready for the covered functions
+-- what is sound is ready for `decide`
 pub clear_ready : (refused : ℕ) (run : Run) (ws : List ℕ) (ss : List Parcel) (l : Ledger) → (refused ≡ 0 → StateSound run (lent ws ss l)) → refused ≡ 0 → Ready run ws
 clear_ready refused run ws ss l clear z = record { sized = sized run (length ws) (length ss) (clear z).0; tables = (clear z).1 }
 

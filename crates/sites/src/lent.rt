@@ -1,5 +1,5 @@
-// The functions that are lent all three things. They decide nothing: each reads what is lent, has a covered function decide by value,
-// and stores what that said. None has a branch, so that one proof by hand serves every step.
+// The functions that are lent all three things. They decide nothing: each reads what is lent, has another function decide by value,
+// and stores what that said. None has a branch, so that one proof serves every step.
 ghost use Rattle.std.specs.Prelude.{◌≡◌};
 ghost use Rattle.rules.specs.meaning.States.{lent};
 ghost use Rattle.rules.specs.meaning.Runs.{Stepped, Freshened};

@@ -1,4 +1,4 @@
--- A step's outcome by value: what the covered functions of this crate compute from the words and from what the step sees besides them.
+-- A step's outcome by value: what the functions of this crate compute from the words and from what the step sees besides them.
 -- Assumes nothing.
 use Rattle.std.specs.Prelude.{ℕ, zero, suc, ◌≡◌, true, List, [], ◌∷◌, length, eqb}
 use Rattle.rules.specs.declared.Answer.{Answer}

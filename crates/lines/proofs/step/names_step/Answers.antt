@@ -1,4 +1,4 @@
--- `lines::step::names_step`: each return is one test of `namesStep`.
+-- `lines::step::names_step`: each return is one test of `names_step`.
 use Rattle.lines.proofs.Steps.{kind_low, kind_high, second_bad, id_says}
 use Rattle.lines.proofs.step.names_step.Goals as goal
 

@@ -1,4 +1,4 @@
--- `table::judge::entries_good`: after i entries the loop has computed `entriesGood` of them.
+-- `table::judge::entries_good`: after i entries the loop has computed `entries_good` of them.
 use Prim.Native.Nat.{◌-◌, ◌+◌}
 use mathlib.Core.Path.{◌≡◌, refl}
 use Rattle.rules.specs.meaning.Lengths.{M}
