@@ -1,7 +1,8 @@
 // Reads lines, valid and damaged, and says of each the refusal, or the four numbers and the line written back from them.
 #![tactic(auto)]
 
-ghost use Rattle.std.specs.Prelude.{◌≡◌, ◌≤◌, replicate, length, IfOk};
+ghost use Rattle.std.specs.Prelude.{◌≡◌, ◌≤◌, ◌<◌, replicate, length, take, IfOk};
+ghost use Rattle.std.specs.Io.KnownBytes.{Consumes, IsAtEnd};
 
 use rules::Line;
 use std::io;
@@ -14,9 +15,12 @@ fn input_buffer() -> [u8; 65536]
     [0; 65536]
 }
 
-// Reads until the buffer is full or the input ends, and answers how many bytes that is.
+// Reads until the buffer is full or the input ends, and answers how many bytes that is: where the reader's bytes are known, it took these from them, and where
+// the buffer is not full, none is left.
 fn read_full<R: Read>(input: &mut R, buffer: &mut [u8]) -> io::Result<usize>
-    ensures { IfOk result (λ n. n ≤ length buffer.new) }
+    ensures bound { IfOk result (λ n. n ≤ length buffer.new) }
+    ensures bytes { IfOk result (λ n. Consumes (R.remaining input.old) (R.remaining input.new) (take n buffer.new)) }
+    ensures end { IfOk result (λ n. n < length buffer.new → IsAtEnd (R.remaining input.new)) }
 {
     let mut done = 0;
     while done < buffer.len() {
