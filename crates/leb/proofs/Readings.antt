@@ -15,7 +15,8 @@ use Rattle.rules.specs.declared.Piece.TheVariants.{Read, Refused}
 use Rattle.rules.specs.meaning.Text.{Front, front, refused, pick, next}
 use Rattle.rules.specs.meaning.Leb.{carried, leb_value, of64, read_leb}
 use Rattle.rules.proofs.laws.line.Numbers.{below}
-use Rattle.rules.proofs.laws.line.Places.{placed, to_place, to_none}
+use Rattle.rules.specs.meaning.Places.{placed}
+use Rattle.rules.proofs.laws.line.Places.{to_place, to_none}
 use Rattle.leb.specs.Places.{leb_at, joined, rest_of, rest_at}
 
 -- ---- bytes at the front

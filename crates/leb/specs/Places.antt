@@ -4,7 +4,8 @@ use Rattle.rules.specs.declared.Piece.{Piece}
 use Rattle.rules.specs.declared.Piece.TheVariants.{Read, Refused}
 use Rattle.rules.specs.meaning.Text.{Front, front, refused, pick, next}
 use Rattle.rules.specs.meaning.Leb.{leb128, leb_value, of64, read_leb}
-use Rattle.rules.proofs.laws.line.Places.{placed, from_place, from_none}
+use Rattle.rules.specs.meaning.Places.{placed}
+use Rattle.rules.proofs.laws.line.Places.{from_place, from_none}
 use Rattle.rules.proofs.laws.group.Leb.{read_leb_law}
 
 -- the number at a place, and the place behind it

@@ -12,7 +12,8 @@ use Rattle.rules.specs.declared.Piece.TheVariants.{Read, Refused}
 use Rattle.rules.specs.meaning.Text.{front, refused, pick}
 use Rattle.rules.specs.meaning.Number.{most_digits, digit_of, is_digit, starts_digit, digit_run, fair, judged, read_number}
 use Rattle.rules.proofs.laws.line.Numbers.{digit_is, run_stop, run_front, run_grows, fair_yes, fair_empty, fair_long, fair_large}
-use Rattle.rules.proofs.laws.line.Places.{number_at, to_place, to_none}
+use Rattle.rules.specs.meaning.Places.{number_at}
+use Rattle.rules.proofs.laws.line.Places.{to_place, to_none}
 
 run_turn : (line : List ℕ) (v i : ℕ) → i < length line → digit_of (get_or line i 0) < 10 → digit_run v (drop i line) ≡ digit_run (v * 10 + digit_of (get_or line i 0)) (drop (i + 1) line)
 unfolding digit_run

@@ -9,7 +9,8 @@ use Rattle.rules.specs.declared.Piece.TheVariants.{Read, Refused}
 use Rattle.rules.specs.meaning.Text.{front, behind}
 use Rattle.rules.specs.meaning.Number.{digits}
 use Rattle.rules.specs.meaning.Lines.{field, read_field}
-use Rattle.rules.proofs.laws.line.Places.{number_at, text_at, field_at, to_place, from_none, text_says}
+use Rattle.rules.specs.meaning.Places.{number_at, text_at, field_at}
+use Rattle.rules.proofs.laws.line.Places.{to_place, from_none, text_says}
 use Rattle.rules.specs.meaning.Put.{put}
 use Rattle.rules.proofs.laws.Put.{put_nil, put_put}
 

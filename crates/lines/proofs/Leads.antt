@@ -10,7 +10,8 @@ use Rattle.rules.specs.declared.Piece.TheVariants.{Read, Refused}
 use Rattle.rules.specs.meaning.Text.{front, refused, behind}
 use Rattle.rules.specs.meaning.Lines.{lead, kind_of}
 use Rattle.rules.proofs.laws.line.Lines.{kind_lead, kind_text, behind_is, behind_text, front_cases}
-use Rattle.rules.proofs.laws.line.Places.{text_at, kind_at, to_place, to_none, from_none, text_says}
+use Rattle.rules.specs.meaning.Places.{text_at, kind_at}
+use Rattle.rules.proofs.laws.line.Places.{to_place, to_none, from_none, text_says}
 
 -- ---- the leads, kind by kind
 pub same_len : (k kind : ℕ) → k ≤ kind → kind ≤ k → length (lead k) ≡ length (lead kind)

@@ -10,7 +10,8 @@ use lib.Seq.{drop-cons}
 use Rattle.rules.specs.declared.Piece.TheVariants.{Read, Refused}
 use Rattle.rules.specs.meaning.Text.{front, refused, behind}
 use Rattle.rules.proofs.laws.line.Lines.{behind_text, front_cases}
-use Rattle.rules.proofs.laws.line.Places.{text_at, to_place, to_none}
+use Rattle.rules.specs.meaning.Places.{text_at}
+use Rattle.rules.proofs.laws.line.Places.{to_place, to_none}
 
 behind_turn : (line text : List ℕ) (i j : ℕ) → i < length line → j < length text → get_or line i 0 ≡ get_or text j 0 → behind (drop j text) (drop i line) ≡ behind (drop (j + 1) text) (drop (i + 1) line)
 unfolding behind

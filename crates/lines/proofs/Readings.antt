@@ -10,7 +10,8 @@ use Rattle.rules.specs.meaning.Text.{front}
 use Rattle.rules.specs.meaning.Number.{read_number}
 use Rattle.rules.specs.meaning.Lines.{to_name, id_name, has_second, has_id, kind_of, read_field, ended, numbers_of}
 use Rattle.rules.proofs.laws.line.Lines.{no_kind, no_first, no_second, no_id, at_end}
-use Rattle.rules.proofs.laws.line.Places.{number_at, field_at, kind_at, from_none, number_says, field_says, kind_says}
+use Rattle.rules.specs.meaning.Places.{number_at, field_at, kind_at}
+use Rattle.rules.proofs.laws.line.Places.{from_none, number_says, field_says, kind_says}
 
 module _ (line : List ℕ) where
   pub line_kind : Refused ≡ kind_at line → NoLine ≡ numbers_of line

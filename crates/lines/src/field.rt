@@ -2,7 +2,7 @@
 ghost use Rattle.std.specs.Prelude.{◌≡◌, cond, ◌+◌, ◌≤◌, length};
 ghost use Rattle.rules.specs.meaning.Number.{digits};
 ghost use Rattle.rules.specs.meaning.Lines.{field};
-ghost use Rattle.rules.proofs.laws.line.Places.{field_at};
+ghost use Rattle.rules.specs.meaning.Places.{field_at};
 ghost use Rattle.rules.specs.meaning.Put.{put};
 
 use crate::number::{places, read_number, write_number};

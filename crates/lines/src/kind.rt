@@ -1,7 +1,7 @@
 // The eight kinds of step lines: how a line of each begins, and which numbers it has.
 ghost use Rattle.std.specs.Prelude.{◌≡◌, ℕ, ◌≤◌, length, take, get_or};
 ghost use Rattle.rules.specs.meaning.Lines.{lead, has_second, has_id};
-ghost use Rattle.rules.proofs.laws.line.Places.{kind_at};
+ghost use Rattle.rules.specs.meaning.Places.{kind_at};
 ghost use Rattle.rules.specs.meaning.Put.{put};
 
 use crate::text::{read_text, write_text};

@@ -1,7 +1,7 @@
 // Decimal numbers in a line.
 ghost use Rattle.std.specs.Prelude.{◌≡◌, ◌+◌, ◌≤◌, length};
 ghost use Rattle.rules.specs.meaning.Number.{most_digits, is_digit, digits};
-ghost use Rattle.rules.proofs.laws.line.Places.{number_at};
+ghost use Rattle.rules.specs.meaning.Places.{number_at};
 ghost use Rattle.rules.specs.meaning.Put.{put};
 
 use rules::Piece;

@@ -1,6 +1,6 @@
 // Fixed pieces of text in a line.
 ghost use Rattle.std.specs.Prelude.{◌≡◌, ◌+◌, ◌≤◌, length};
-ghost use Rattle.rules.proofs.laws.line.Places.{text_at};
+ghost use Rattle.rules.specs.meaning.Places.{text_at};
 ghost use Rattle.rules.specs.meaning.Put.{put};
 
 use rules::Piece;

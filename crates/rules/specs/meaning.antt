@@ -25,6 +25,7 @@ pub mod Repairs
 pub mod Number
 pub mod Padding
 pub mod Lines
+pub mod Places
 pub mod StepLines
 pub mod Writing
 pub mod Area

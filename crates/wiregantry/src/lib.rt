@@ -1,5 +1,5 @@
-// What C calls. The functions here decide nothing: each hands on what it is lent to the crate that does the work, and gives back a number.
-// They stand in one crate because an archive exports the functions of its own crate only.
+// What C calls, as a library. The functions here decide nothing: each hands on what it is lent to the crate that does the work, and gives back a number.
+// `wiregantry_c` exports them.
 #![tactic(auto)]
 
 ghost use Rattle.std.specs.Prelude.{◌≡◌};

@@ -1,6 +1,6 @@
 -- The room of a run, by example: a run that meets what the promise asks, refused steps and all, and the first refusal past its bound.
 -- Assumes nothing.
-use Rattle.std.specs.Prelude.{ℕ, true, ◌≡◌, refl, List, [], ◌∷◌, ◌++◌, length}
+use Rattle.std.specs.Prelude.{true, ◌≡◌, refl, List, [], ◌∷◌, ◌++◌, length}
 use Rattle.std.proofs.Common.{le_refl}
 use Rattle.rules.specs.declared.Step.TheVariants.{Add, Send, Merge, Deliver}
 use Rattle.rules.specs.meaning.Lengths.{listed, after_add, after_remove}

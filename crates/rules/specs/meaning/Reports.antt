@@ -15,7 +15,7 @@ use Rattle.rules.specs.meaning.Parcels.{no_parcel, waiting}
 use Rattle.rules.specs.meaning.Ledgers.{begun_ledger}
 use Rattle.rules.specs.meaning.States.{State, lent, table_at}
 use Rattle.rules.specs.meaning.Refusals.{◌when◌, first_given}
-use Rattle.rules.specs.meaning.Runs.{refusal_of, value_of, after}
+use Rattle.rules.specs.meaning.Runs.{refusal_of, value_of}
 use Rattle.rules.specs.meaning.Kinds.{numbers, is_query}
 use Rattle.rules.specs.meaning.Text.{ascii}
 use Rattle.rules.specs.meaning.Number.{digits}

@@ -6,7 +6,7 @@ use native.Mathlib.Omega.{arith}
 use native.Mathlib.Nat.{mul-le-mul_right}
 use borrow.Author.Rules.{rules}
 use lib.ListN.{length, drop}
-use Rattle.rules.proofs.laws.line.Places.{placed}
+use Rattle.rules.specs.meaning.Places.{placed}
 use Rattle.leb.specs.Places.{rest_of, rest_at}
 use Rattle.leb.proofs.Readings.{IsScale, last_padded, last_fits, scale_is, scale_below, scale_top, scale_more, rest_end, rest_turn, rest_done}
 use Rattle.leb.proofs.read.read_on.Statement.{statement}

@@ -2,7 +2,7 @@
 use native.Mathlib.Omega.{arith}
 use mathlib.Core.Path.{sym, ap, ◌∙◌}
 use lib.Seq.{length-take-le}
-use Rattle.rules.proofs.laws.line.Places.{text_at}
+use Rattle.rules.specs.meaning.Places.{text_at}
 use Rattle.lines.proofs.Leads.{lead_is, kind_short, kind_found, kind_other}
 use Rattle.lines.proofs.kind.read_kind.Goals as goal
 

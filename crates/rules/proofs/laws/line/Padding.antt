@@ -1,12 +1,11 @@
 -- What follows for padding in any text: one without it stays as it is, what is left of any other has none, and a piece without a digit is kept.
 -- Assumes nothing.
-use Rattle.std.specs.Prelude.{◌≡◌, refl, Bool, true, false, not, ◌&&◌, List, [], ◌∷◌, ◌++◌, ℕ, zero, suc, ◌≤◌, eqb, length}
+use Rattle.std.specs.Prelude.{◌≡◌, refl, Bool, true, false, not, ◌&&◌, List, [], ◌∷◌, ◌++◌, ℕ, suc, ◌≤◌, eqb, length}
 use Rattle.std.proofs.Common.{sym, ◌∙◌, arith, eqb-true, ne_eqb}
 use Rattle.std.proofs.Math.Path.{ap}
 use Rattle.std.proofs.Math.Bool.{and-false}
 use Rattle.std.proofs.lemmas.Bool.{false≢true}
 use Rattle.rules.proofs.laws.table.View.{parts}
-use Rattle.rules.specs.meaning.Text.{front}
 use Rattle.rules.specs.meaning.Number.{digit_of, is_digit, starts_digit}
 use Rattle.rules.specs.meaning.Padding.{is_padding, unpadded_from, unpadded, padded_from, is_padded, short_from, has_short_numbers}
 use Rattle.rules.proofs.laws.line.Numbers.{by_test}

@@ -6,26 +6,8 @@ use Rattle.rules.specs.meaning.Number.{read_number}
 use Rattle.rules.proofs.laws.line.Numbers.{below, read_suffix}
 use Rattle.rules.specs.meaning.Lines.{lead, kind_of, read_field}
 use Rattle.rules.proofs.laws.line.Lines.{behind_text, field_suffix, kind_text}
-use Rattle.rules.specs.declared.Piece.{Piece}
+use Rattle.rules.specs.meaning.Places.{placed, number_at, text_at, field_at, kind_at}
 use Rattle.rules.specs.declared.Piece.TheVariants.{Read, Refused}
-
--- what was read of a line of n bytes, with the place behind it for the rest
-abbrev pub placed : ℕ → Front → Piece
-placed n (front v rest) = Read v (n - length rest)
-placed n refused = Refused
-
--- the four readers, at a place
-unfoldable pub number_at : List ℕ → ℕ → Piece
-number_at line at = placed (length line) (read_number (drop at line))
-
-unfoldable pub text_at : List ℕ → ℕ → List ℕ → Piece
-text_at line at text = placed (length line) (behind text (drop at line))
-
-unfoldable pub field_at : Bool → List ℕ → List ℕ → ℕ → Piece
-field_at used name line at = placed (length line) (read_field used name (drop at line))
-
-unfoldable pub kind_at : List ℕ → Piece
-kind_at line = placed (length line) (kind_of line)
 
 -- ---- to a place: what is left is the line from there
 pub to_place : (line : List ℕ) (f : Front) (v i : ℕ) → f ≡ front v (drop i line) → i ≤ length line → placed (length line) f ≡ Read v i

@@ -1,7 +1,7 @@
 -- The order of repairs, at one table: what comes of tables and groups that fit it together goes by their entries alone. Each law of the request follows from
 -- THE LAW and from one of the join.
 -- Assumes nothing.
-use Rattle.std.specs.Prelude.{ℕ, ◌*◌, ◌≤◌, false, ◌≡◌, refl, length, eqb}
+use Rattle.std.specs.Prelude.{ℕ, ◌*◌, ◌≤◌, ◌≡◌, refl, length, eqb}
 use Rattle.std.proofs.Common.{le_refl, arith, ap, ◌∙◌, le-ltb, eqb-true}
 use Rattle.std.proofs.Math.Bool.{true}
 use Rattle.std.proofs.lemmas.Bool.{false≢true}

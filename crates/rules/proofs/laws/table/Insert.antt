@@ -1,13 +1,13 @@
 -- The table after an id's length is raised, by its places: what code that writes it in place shows.
 -- Assumes nothing.
-use Prim.Native.Nat.{ℕ, zero, suc, ◌+◌, ◌*◌, ◌≤◌, ◌<◌, zero-le}
-use Rattle.std.proofs.Common.{le_refl, le_of_suc-le-suc, not-suc-le-zero, suc-ne-zero, arith, sym, ap, ◌∙◌, ⊎_elim, inl, inr, lt-ltb, le-ltb, eq-eqb, ne_eqb}
-use Rattle.std.specs.Prelude.{Bool, true, false, ◌≡◌, refl, ◌⊎◌, List, [], ◌∷◌, length, get_or, set, eqb, ltb}
+use Prim.Native.Nat.{ℕ, zero, suc, ◌+◌, ◌*◌, ◌≤◌, ◌<◌}
+use Rattle.std.proofs.Common.{le_refl, le_of_suc-le-suc, not-suc-le-zero, suc-ne-zero, arith, sym, ap, ◌∙◌, lt-ltb, le-ltb, eq-eqb, ne_eqb}
+use Rattle.std.specs.Prelude.{true, ◌≡◌, refl, List, ◌∷◌, length, set, eqb, ltb}
 use Rattle.std.proofs.Math.Bool.{cond}
 use Rattle.rules.specs.meaning.Table.{sound, id_at, length_at, length_of, held, rank, push, with_length, raised, held_with}
 use Rattle.rules.proofs.laws.table.Order.{Side, Side.below, Side.same, Side.above, side}
-use Rattle.rules.proofs.laws.table.View.{Unused, Unused.none, Unused.pair, Sound, Sound.rest, Sound.used, seen, say}
-use Rattle.rules.proofs.laws.table.Law.{of_same, of_other, of_below, of_unused}
+use Rattle.rules.proofs.laws.table.View.{Unused, Unused.none, Unused.pair, Sound, Sound.rest, Sound.used, seen}
+use Rattle.rules.proofs.laws.table.Law.{of_same, of_other}
 use Rattle.rules.proofs.laws.table.Update.{Roomy, Fitting, with_below, with_at, with_above, raised_with, held_with_law, raised_sound, raised_of, raised_held, suc_cond}
 use Rattle.rules.proofs.laws.table.Places.{Laid, from_lo, id_next, laid_of, sound_laid, held_laid, rank_is, placed, length_of_at}
 

@@ -1,6 +1,6 @@
 -- THE LAW: two sound tables of one size whose lengths agree at every id are the same list. Before it, what `length_of` says of an entry.
 -- Assumes nothing.
-use Rattle.std.specs.Prelude.{ℕ, zero, suc, ◌≤◌, ◌<◌, Bool, true, false, cond, ◌≡◌, refl, List, [], ◌∷◌, length, eqb}
+use Rattle.std.specs.Prelude.{ℕ, suc, ◌≤◌, ◌<◌, Bool, true, false, cond, ◌≡◌, refl, List, ◌∷◌, length, eqb}
 use Rattle.std.proofs.Common.{le_refl, le_trans, arith, sym, ap, ◌∙◌, eq-eqb, ne_eqb}
 use Rattle.rules.specs.meaning.Table.{sound, length_of}
 use Rattle.rules.proofs.laws.table.Order.{Side, Side.below, Side.same, Side.above, side}

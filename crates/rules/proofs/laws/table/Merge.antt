@@ -1,10 +1,10 @@
 -- The laws of a merge: for each id the larger of the two lengths, in a sound table of the same size; the entries grow by the new ids; and
 -- the number of rises is 0 only where nothing changes.
 -- Assumes nothing.
-use Prim.Native.Nat.{ℕ, zero, suc, ◌+◌, ◌*◌, ◌≤◌, ◌<◌, max}
-use Rattle.std.proofs.Common.{le_refl, suc-ne-zero, sym, ◌∙◌}
+use Prim.Native.Nat.{ℕ, zero, suc, ◌+◌, ◌≤◌, max}
+use Rattle.std.proofs.Common.{le_refl, suc-ne-zero, ◌∙◌}
 use native.Mathlib.Omega.{arith}
-use Rattle.std.specs.Prelude.{Bool, true, false, cond, ◌≡◌, List, [], ◌∷◌, length, eqb, ltb}
+use Rattle.std.specs.Prelude.{Bool, true, false, cond, ◌≡◌, List, ◌∷◌, length, eqb, ltb}
 use Rattle.std.proofs.Math.Path.{refl, ap}
 use borrow.Author.Tests.{lt-ltb, ltb-false, eq-eqb, ne_eqb}
 use Rattle.rules.specs.meaning.Table.{sound, capacity, length_of, held, raised, held_with, merged, new_ids, rises, held_merged}

@@ -1,19 +1,19 @@
 -- What each operation does to a sound table: when it is refused, that the table stays sound and of one size, what its lengths become
 -- (the paper's right-hand sides), and how many entries it then has.
 -- Assumes nothing.
-use Prim.Native.Nat.{ℕ, zero, suc, ◌+◌, ◌%◌, ◌≤◌, ◌<◌, max}
-use Rattle.std.proofs.Common.{suc-ne-zero, arith, sym, ap, ◌∙◌}
+use Prim.Native.Nat.{ℕ, zero, suc, ◌+◌, ◌%◌, ◌≤◌, ◌<◌}
+use Rattle.std.proofs.Common.{suc-ne-zero, arith, ◌∙◌}
 use Rattle.std.specs.Prelude.{Bool, cond, ◌≡◌, List, eqb, ltb}
 use Rattle.std.proofs.Math.Bool.{true, false}
 use Rattle.std.proofs.Math.Path.{refl}
 use Rattle.std.proofs.Math.ListN.{length}
-use borrow.Author.Tests.{lt-ltb, le-ltb, ltb-false, eqb-true, eq-eqb, ne_eqb}
-use Rattle.rules.specs.meaning.Lengths.{M, listed, after_add, after_remove, join, runs_out}
+use borrow.Author.Tests.{lt-ltb, le-ltb, ltb-false, ne_eqb}
+use Rattle.rules.specs.meaning.Lengths.{M, after_add, after_remove, join, runs_out}
 use Rattle.rules.proofs.laws.Lengths.{add_rises, add_fits, remove_rises, remove_none, remove_runs_out, join_upper, join_least}
 use Rattle.rules.specs.meaning.Table.{sound, capacity, length_of, held, raised, held_with, merged, new_ids, rises, held_merged}
 use Rattle.rules.specs.meaning.Operations.{accepted, out_of_lengths, out_of_room, answer, unless_refused, room_refusal, raise_refusal, raise_answer, raise_table, add_table, absorb_table, remove_refusal, remove_table, merge_refusal, merge_answer, merge_table}
 use Rattle.rules.proofs.laws.table.Law.{of_most}
-use Rattle.rules.proofs.laws.table.Update.{Fitting, raised_length, raised_sound, raised_of, raised_held, held_fits, fitting_here}
+use Rattle.rules.proofs.laws.table.Update.{Fitting, raised_length, raised_sound, raised_of, raised_held, fitting_here}
 use Rattle.rules.proofs.laws.table.Merge.{Merged, merged_of}
 
 -- ---- refused for lack of room exactly where more entries are needed than the table has room for

@@ -1,9 +1,8 @@
 -- A sound table by its places: what a proof about code reads of a table, and what it shows of one. `Laid` is the interface, and the
 -- bridge from the definition and back is crossed here, once.
 -- Assumes nothing.
-use Rattle.std.specs.Prelude.{ℕ, zero, suc, ◌+◌, ◌*◌, ◌%◌, ◌≤◌, ◌<◌, Bool, true, false, cond, ◌≡◌, refl, ◌⊎◌, List, [], ◌∷◌, length, get_or, ltb}
+use Rattle.std.specs.Prelude.{ℕ, zero, suc, ◌+◌, ◌*◌, ◌%◌, ◌≤◌, ◌<◌, true, cond, ◌≡◌, refl, ◌⊎◌, List, [], ◌∷◌, length, get_or, ltb}
 use Rattle.std.proofs.Common.{zero-le, suc-le-suc, le_refl, le_of_suc-le-suc, not-suc-le-zero, eq-or-lt_of_le, arith, sym, ap, ◌∙◌, ⊎_elim, inl, inr, lt-ltb, le-ltb}
-use Rattle.std.proofs.lemmas.Bool.{false≢true}
 use Rattle.rules.specs.declared.Found.{Found}
 use Rattle.rules.specs.declared.Found.TheVariants.{At, Absent}
 use Rattle.rules.specs.meaning.Table.{sound, id_at, length_at, length_of, held, rank, found_by, found_of, length_found}

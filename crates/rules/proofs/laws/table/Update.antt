@@ -1,7 +1,7 @@
 -- The laws of a table with another length for one id: it stays sound and of one size, its function is s{e ↦ n}, and the number of
 -- entries grows by 1 exactly where the id had none.
 -- Assumes nothing.
-use Prim.Native.Nat.{ℕ, zero, suc, ◌/◌, ◌≤◌, ◌<◌, zero-le}
+use Prim.Native.Nat.{ℕ, zero, suc, ◌≤◌, ◌<◌, zero-le}
 use Rattle.std.proofs.Common.{le_refl, arith, sym, ap, ◌∙◌, ⊎_elim, inl, inr, lt-ltb, le-ltb, eq-eqb, ne_eqb}
 use Rattle.std.specs.Prelude.{Bool, true, false, cond, ◌≡◌, ◌⊎◌, List, [], ◌∷◌, length, eqb, ltb}
 use Rattle.std.proofs.Math.Path.{refl}

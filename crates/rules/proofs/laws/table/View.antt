@@ -2,7 +2,7 @@
 -- Assumes nothing.
 use Rattle.std.specs.Prelude.{ℕ, zero, suc, ◌≤◌, Bool, true, false, ◌&&◌, ◌≡◌, refl, List, [], ◌∷◌, leb}
 use Rattle.std.proofs.lemmas.Bool.{false≢true}
-use Rattle.std.proofs.Common.{sym, ◌∙◌, le-leb, leb-true}
+use Rattle.std.proofs.Common.{le-leb, leb-true}
 use Rattle.rules.specs.meaning.Table.{unused, sound_from}
 
 pub data Unused : List ℕ → Type 0 where
