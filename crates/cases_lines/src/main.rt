@@ -4,7 +4,7 @@
 ghost use Rattle.std.specs.Prelude.{◌≡◌, ◌≤◌, ◌<◌, replicate, length, take, IfOk};
 ghost use Rattle.std.specs.Io.KnownBytes.{Consumes, IsAtEnd};
 
-use rules::Line;
+use rules::Numbers;
 use std::io;
 use std::io::Read;
 
@@ -62,7 +62,15 @@ fn one_line(rt: &impl Print, number: u64, line: &[u8]) -> io::Result<()> {
     if refusal != 0 {
         named(rt, " refused=", refusal as u64)?;
     }
-    if let Line::Numbers(kind, first, second, id) = lines::read_line(line) {
+    if let Some(
+        Numbers {
+            kind,
+            first,
+            second,
+            id,
+        },
+    ) = lines::read_line(line)
+    {
         named(rt, " kind=", kind)?;
         named(rt, " first=", first)?;
         named(rt, " second=", second)?;

@@ -78,10 +78,7 @@ fn sized(rt: &impl Print, sites: u64, capacity: u64) -> io::Result<()> {
     number(rt, "sites=", sites)?;
     number(rt, " capacity=", capacity)?;
     text(rt, " ")?;
-    let run = Run {
-        sites: sites,
-        capacity: capacity,
-    };
+    let run = Run { sites, capacity };
     query(rt, fresh_kept(0), run, 0, 7)?;
     Ok(())
 }

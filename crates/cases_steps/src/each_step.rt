@@ -55,7 +55,7 @@ fn play(rt: &impl Print, before: Kept, run: Run, step: Step) -> io::Result<Kept>
 }
 
 pub(crate) fn add(rt: &impl Print, before: Kept, run: Run, site: u64, id: u64) -> io::Result<Kept> {
-    let step = Step::Add { site: site, id: id };
+    let step = Step::Add { site, id };
     play(rt, before, run, step)
 }
 
@@ -66,7 +66,7 @@ pub(crate) fn remove(
     site: u64,
     id: u64,
 ) -> io::Result<Kept> {
-    let step = Step::Remove { site: site, id: id };
+    let step = Step::Remove { site, id };
     play(rt, before, run, step)
 }
 
@@ -77,7 +77,7 @@ pub(crate) fn query(
     site: u64,
     id: u64,
 ) -> io::Result<Kept> {
-    let step = Step::Query { site: site, id: id };
+    let step = Step::Query { site, id };
     play(rt, before, run, step)
 }
 
@@ -89,11 +89,7 @@ pub(crate) fn send(
     to: u64,
     id: u64,
 ) -> io::Result<Kept> {
-    let step = Step::Send {
-        from: from,
-        to: to,
-        id: id,
-    };
+    let step = Step::Send { from, to, id };
     play(rt, before, run, step)
 }
 
@@ -104,21 +100,21 @@ pub(crate) fn merge(
     from: u64,
     to: u64,
 ) -> io::Result<Kept> {
-    let step = Step::Merge { from: from, to: to };
+    let step = Step::Merge { from, to };
     play(rt, before, run, step)
 }
 
 pub(crate) fn deliver(rt: &impl Print, before: Kept, run: Run, slot: u64) -> io::Result<Kept> {
-    let step = Step::Deliver { slot: slot };
+    let step = Step::Deliver { slot };
     play(rt, before, run, step)
 }
 
 pub(crate) fn again(rt: &impl Print, before: Kept, run: Run, slot: u64) -> io::Result<Kept> {
-    let step = Step::Again { slot: slot };
+    let step = Step::Again { slot };
     play(rt, before, run, step)
 }
 
 pub(crate) fn lose(rt: &impl Print, before: Kept, run: Run, slot: u64) -> io::Result<Kept> {
-    let step = Step::Lose { slot: slot };
+    let step = Step::Lose { slot };
     play(rt, before, run, step)
 }

@@ -37,20 +37,20 @@ pub(crate) fn one_site() -> Run {
 pub(crate) fn parcel_to(site: u64, id: u64, length: u64) -> Parcel {
     let sender: u32 = if site == 0 { 1 } else { 0 };
     Parcel {
-        site: site,
-        id: id,
-        length: length,
-        sender: sender,
+        site,
+        id,
+        length,
+        sender,
         serial: 0,
     }
 }
 
 pub(crate) fn pair_of(next: u32, heard: u32, unsent: u32, unheard: u32) -> Pair {
     Pair {
-        next: next,
-        heard: heard,
-        unsent: unsent,
-        unheard: unheard,
+        next,
+        heard,
+        unsent,
+        unheard,
     }
 }
 
@@ -64,9 +64,9 @@ pub(crate) fn with_entry(state: Kept, place: usize, id: u64, length: u64) -> Kep
     let slots = state.slots;
     let ledger = state.ledger;
     Kept {
-        words: words,
-        slots: slots,
-        ledger: ledger,
+        words,
+        slots,
+        ledger,
     }
 }
 
@@ -78,9 +78,9 @@ pub(crate) fn with_parcel(state: Kept, slot: usize, parcel: Parcel) -> Kept
     slots[slot] = parcel;
     let ledger = state.ledger;
     Kept {
-        words: words,
-        slots: slots,
-        ledger: ledger,
+        words,
+        slots,
+        ledger,
     }
 }
 
@@ -90,19 +90,16 @@ pub(crate) fn with_ledger(state: Kept, sent: u64, copied: u64, absorbed: u64, lo
     let before = state.ledger;
     let pairs = before.pairs;
     let counts = Counts {
-        sent: sent,
-        copied: copied,
-        absorbed: absorbed,
-        lost: lost,
+        sent,
+        copied,
+        absorbed,
+        lost,
     };
-    let ledger = Ledger {
-        counts: counts,
-        pairs: pairs,
-    };
+    let ledger = Ledger { counts, pairs };
     Kept {
-        words: words,
-        slots: slots,
-        ledger: ledger,
+        words,
+        slots,
+        ledger,
     }
 }
 
@@ -115,9 +112,9 @@ pub(crate) fn with_pair(state: Kept, at: usize, pair: Pair) -> Kept
     let mut ledger = state.ledger;
     ledger.pairs[at] = pair;
     Kept {
-        words: words,
-        slots: slots,
-        ledger: ledger,
+        words,
+        slots,
+        ledger,
     }
 }
 
@@ -129,8 +126,8 @@ pub(crate) fn all_waiting() -> Kept {
     let words = begun.words;
     let ledger = begun.ledger;
     Kept {
-        words: words,
-        slots: slots,
-        ledger: ledger,
+        words,
+        slots,
+        ledger,
     }
 }

@@ -55,10 +55,10 @@ pub fn raised(counts: Counts, counter: u64) -> Counts
     let absorbed = raised_if(counter == 3, counts.absorbed);
     let lost = raised_if(counter == 4, counts.lost);
     Counts {
-        sent: sent,
-        copied: copied,
-        absorbed: absorbed,
-        lost: lost,
+        sent,
+        copied,
+        absorbed,
+        lost,
     }
 }
 

@@ -7,8 +7,7 @@ use native.Mathlib.Omega.{arith}
 use native.Mathlib.Numerals.{add-one}
 use borrow.Author.Tests.{lt-ltb, le-ltb}
 use lib.Dec.{ltb}
-use Rattle.rules.specs.declared.Piece.{Piece}
-use Rattle.rules.specs.declared.Piece.TheVariants.{Read, Refused}
+use Rattle.std.specs.Prelude.{Option, Some, None}
 use Rattle.rules.specs.meaning.Lengths.{M}
 use Rattle.rules.specs.meaning.Groups.{entries_from}
 use Rattle.leb.specs.Places.{leb_at, leb_says, leb_says_none}
@@ -22,16 +21,16 @@ and_false true = refl
 and_false false = refl
 
 module _ (bytes : List ℕ) (at lo : ℕ) where
-  pub no_gap : leb_at bytes at ≡ Refused → Enters bytes at lo NoEntry
+  pub no_gap : leb_at bytes at ≡ None → Enters bytes at lo NoEntry
   unfolding entries_from
   no_gap e k = rw (leb_says_none bytes at e)
 
-  module _ (gap middle : ℕ) (one : leb_at bytes at ≡ Read gap middle) where
-    pub no_less : leb_at bytes middle ≡ Refused → Enters bytes at lo NoEntry
+  module _ (gap middle : ℕ) (one : leb_at bytes at ≡ Some (gap, middle)) where
+    pub no_less : leb_at bytes middle ≡ None → Enters bytes at lo NoEntry
     unfolding entries_from
     no_less e k = rw ((leb_says bytes at gap middle one).0, leb_says_none bytes middle e)
 
-    module _ (less behind : ℕ) (two : leb_at bytes middle ≡ Read less behind) where
+    module _ (less behind : ℕ) (two : leb_at bytes middle ≡ Some (less, behind)) where
       pub no_length : M ≤ less → Enters bytes at lo NoEntry
       unfolding entries_from
       no_length h k = rw ((leb_says bytes at gap middle one).0, (leb_says bytes middle less behind two).0, le-ltb less M h, and_false (ltb (lo + gap) (2 ^ 64)))
@@ -53,11 +52,11 @@ module _ (bytes : List ℕ) where
     left : 2 - k ≡ suc (2 - (k + 1))
     left = omega arith
 
-    pub next_two : (n behind : ℕ) → leb_at bytes place ≡ Read n behind → last_two (2 - (k + 1)) bytes behind second n ≡ whole
+    pub next_two : (n behind : ℕ) → leb_at bytes place ≡ Some (n, behind) → last_two (2 - (k + 1)) bytes behind second n ≡ whole
     unfolding last_two
     next_two n behind e = rw (left, e) at inv
 
-    pub no_two : leb_at bytes place ≡ Refused → Missing ≡ whole
+    pub no_two : leb_at bytes place ≡ None → Missing ≡ whole
     unfolding last_two
     no_two e = rw (left, e) at inv
 
@@ -67,30 +66,30 @@ module _ (bytes : List ℕ) where
 
   -- what two numbers at a place say of each
   module _ (at : ℕ) where
-    pub two_says : (gap less behind : ℕ) → two_at bytes at ≡ Numbers gap less behind → (middle : ℕ) × (leb_at bytes at ≡ Read gap middle) × (leb_at bytes middle ≡ Read less behind)
+    pub two_says : (gap less behind : ℕ) → two_at bytes at ≡ Numbers gap less behind → (middle : ℕ) × (leb_at bytes at ≡ Some (gap, middle)) × (leb_at bytes middle ≡ Some (less, behind))
     unfolding two_at last_two
     two_says gap less behind e = go (leb_at bytes at) refl e
       where
-        further : (n middle : ℕ) (f : Piece) → leb_at bytes middle ≡ f → then_two f (λ m p. Numbers n m p) ≡ Numbers gap less behind
-            → (n ≡ gap) × (leb_at bytes middle ≡ Read less behind)
-        further n middle (Read m p) is q = (let a : n ≡ gap = cc in a, is ∙ (let b : m ≡ less = cc in let d : p ≡ behind = cc in cc))
-        further n middle Refused is q = absurd (let z : ◌≡◌ {A = ℕ} 0 1 = cc in omega arith)
+        further : (n middle : ℕ) (f : Option (ℕ × ℕ)) → leb_at bytes middle ≡ f → then_two f (λ m p. Numbers n m p) ≡ Numbers gap less behind
+            → (n ≡ gap) × (leb_at bytes middle ≡ Some (less, behind))
+        further n middle (Some (m, p)) is q = (let a : n ≡ gap = cc in a, is ∙ (let b : m ≡ less = cc in let d : p ≡ behind = cc in cc))
+        further n middle None is q = absurd (let z : ◌≡◌ {A = ℕ} 0 1 = cc in omega arith)
 
-        go : (f : Piece) → leb_at bytes at ≡ f → then_two f (λ n p. then_two (leb_at bytes p) (λ m r. Numbers n m r)) ≡ Numbers gap less behind
-            → (middle : ℕ) × (leb_at bytes at ≡ Read gap middle) × (leb_at bytes middle ≡ Read less behind)
-        go (Read n middle) is q =
+        go : (f : Option (ℕ × ℕ)) → leb_at bytes at ≡ f → then_two f (λ n p. then_two (leb_at bytes p) (λ m r. Numbers n m r)) ≡ Numbers gap less behind
+            → (middle : ℕ) × (leb_at bytes at ≡ Some (gap, middle)) × (leb_at bytes middle ≡ Some (less, behind))
+        go (Some (n, middle)) is q =
             let t = further n middle (leb_at bytes middle) refl q in
-            (middle, is ∙ ap (λ (g : ℕ). Read g middle) t.0, t.1)
-        go Refused is q = absurd (let z : ◌≡◌ {A = ℕ} 0 1 = cc in omega arith)
+            (middle, is ∙ ap (λ (g : ℕ). Some (g, middle)) t.0, t.1)
+        go None is q = absurd (let z : ◌≡◌ {A = ℕ} 0 1 = cc in omega arith)
 
     pub two_missing : (lo : ℕ) → two_at bytes at ≡ Missing → Enters bytes at lo NoEntry
     unfolding two_at last_two
     two_missing lo e = go (leb_at bytes at) refl e
       where
-        further : (n middle : ℕ) → leb_at bytes at ≡ Read n middle → (f : Piece) → leb_at bytes middle ≡ f → then_two f (λ m p. Numbers n m p) ≡ Missing → Enters bytes at lo NoEntry
-        further n middle one (Read m p) is q = absurd (let z : ◌≡◌ {A = ℕ} 0 1 = cc in omega arith)
-        further n middle one Refused is q = no_less bytes at lo n middle one is
+        further : (n middle : ℕ) → leb_at bytes at ≡ Some (n, middle) → (f : Option (ℕ × ℕ)) → leb_at bytes middle ≡ f → then_two f (λ m p. Numbers n m p) ≡ Missing → Enters bytes at lo NoEntry
+        further n middle one (Some (m, p)) is q = absurd (let z : ◌≡◌ {A = ℕ} 0 1 = cc in omega arith)
+        further n middle one None is q = no_less bytes at lo n middle one is
 
-        go : (f : Piece) → leb_at bytes at ≡ f → then_two f (λ n p. then_two (leb_at bytes p) (λ m r. Numbers n m r)) ≡ Missing → Enters bytes at lo NoEntry
-        go (Read n middle) is q = further n middle is (leb_at bytes middle) refl q
-        go Refused is q = no_gap bytes at lo is
+        go : (f : Option (ℕ × ℕ)) → leb_at bytes at ≡ f → then_two f (λ n p. then_two (leb_at bytes p) (λ m r. Numbers n m r)) ≡ Missing → Enters bytes at lo NoEntry
+        go (Some (n, middle)) is q = further n middle is (leb_at bytes middle) refl q
+        go None is q = no_gap bytes at lo is

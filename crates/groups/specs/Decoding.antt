@@ -1,10 +1,8 @@
 -- What decoding answers: of one entry, of two numbers, and of a group whose entries go into words. Assumes nothing.
-use Rattle.std.specs.Prelude.{◌≡◌, Bool, true, false, List, ℕ, zero, suc, ◌*◌, ◌≤◌, length, take, drop}
+use Rattle.std.specs.Prelude.{◌≡◌, Bool, true, false, List, ℕ, zero, suc, ◌*◌, ◌≤◌, length, take, drop, Option, Some, None}
 use Rattle.rules.specs.meaning.Groups.{most_entries, Group, group, no_group, with_entry, entries_from}
 use Rattle.groups.specs.declared.entry.Entry.{Entry}
 use Rattle.groups.specs.declared.entry.Entry.TheVariants.{Taken, NoEntry}
-use Rattle.rules.specs.declared.Piece.{Piece}
-use Rattle.rules.specs.declared.Piece.TheVariants.{Read, Refused}
 use Rattle.leb.specs.Places.{leb_at}
 use Rattle.groups.specs.declared.entry.Two.{Two}
 use Rattle.groups.specs.declared.entry.Two.TheVariants.{Numbers, Missing}
@@ -18,9 +16,9 @@ Enters bytes at lo (Taken e n behind) = ((k : ℕ) → entries_from (suc k) lo (
 Enters bytes at lo NoEntry = (k : ℕ) → entries_from (suc k) lo (drop at bytes) ≡ no_group
 
 -- ---- two numbers, one behind the other
-abbrev pub then_two : Piece → (ℕ → ℕ → Two) → Two
-then_two (Read n behind) f = f n behind
-then_two Refused f = Missing
+abbrev pub then_two : Option (ℕ × ℕ) → (ℕ → ℕ → Two) → Two
+then_two (Some (n, behind)) f = f n behind
+then_two None f = Missing
 
 -- so many numbers more from a place on: the last two of them, and the place behind
 unfoldable pub last_two : ℕ → List ℕ → ℕ → ℕ → ℕ → Two

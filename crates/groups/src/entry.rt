@@ -2,7 +2,7 @@
 ghost use Rattle.std.specs.Prelude.{◌≡◌, ◌+◌};
 ghost use Rattle.groups.specs.Decoding.{Enters, two_at};
 
-use rules::{M, Piece};
+use rules::M;
 
 // The largest id.
 const MOST: u64 = 18446744073709551615;
@@ -31,7 +31,7 @@ fn read_two(bytes: &[u8], at: usize) -> Two
     let mut second: u64 = 0;
     let mut k: usize = 0;
     while k < 2 {
-        let Piece::Read(n, behind) = leb::read_leb(bytes, place) else {
+        let Some((n, behind)) = leb::read_leb(bytes, place) else {
             return Two::Missing;
         };
         first = second;

@@ -37,8 +37,5 @@ pub fn read_group(bytes: &[u8], entries: &mut [u64]) -> Grouped
         };
     }
     copy(&words, 2 * count, entries);
-    Grouped {
-        refusal: 0,
-        count: count,
-    }
+    Grouped { refusal: 0, count }
 }

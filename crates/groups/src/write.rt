@@ -91,8 +91,5 @@ pub fn write_group(entries: &[u64], out: &mut [u8]) -> Grouped
         };
     }
     let count = lay(entries, out);
-    Grouped {
-        refusal: 0,
-        count: count,
-    }
+    Grouped { refusal: 0, count }
 }

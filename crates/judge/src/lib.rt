@@ -83,10 +83,10 @@ pub fn judge_seen(words: &[u64], run: Run, scan: Scan, slots: usize, books: Seen
 {
     let none = no_parcel();
     let seen = Sight {
-        scan: scan,
+        scan,
         named: none,
         count: slots,
-        books: books,
+        books,
     };
     judge(words, run, seen)
 }

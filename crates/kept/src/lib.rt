@@ -50,13 +50,13 @@ pub fn fresh_kept(first: u32) -> Kept
         unheard: 1,
     };
     let ledger = Ledger {
-        counts: counts,
+        counts,
         pairs: [begun; ENTRIES],
     };
     Kept {
-        words: words,
-        slots: slots,
-        ledger: ledger,
+        words,
+        slots,
+        ledger,
     }
 }
 
@@ -69,12 +69,12 @@ pub fn step_kept(kept: Kept, run: Run, step: Step) -> Moved
     let mut ledger = kept.ledger;
     let answer = sites::step(&mut words, &mut slots, &mut ledger, run, step);
     let after = Kept {
-        words: words,
-        slots: slots,
-        ledger: ledger,
+        words,
+        slots,
+        ledger,
     };
     Moved {
         kept: after,
-        answer: answer,
+        answer,
     }
 }

@@ -10,8 +10,7 @@ use borrow.Author.Tests.{lt-ltb, le-ltb, ne_eqb, eq-eqb, eqb-true, eqb-false}
 use lib.ListN.{length, get_or, drop, length-drop, drop_of_length-le}
 use lib.Seq.{drop-cons}
 use lib.Dec.{ltb, eqb}
-use Rattle.rules.specs.declared.Piece.{Piece}
-use Rattle.rules.specs.declared.Piece.TheVariants.{Read, Refused}
+use Rattle.std.specs.Prelude.{Option, Some, None}
 use Rattle.rules.specs.meaning.Text.{Front, front, refused, pick, next}
 use Rattle.rules.specs.meaning.Leb.{carried, leb_value, of64, read_leb}
 use Rattle.rules.proofs.laws.line.Numbers.{below}
@@ -71,20 +70,20 @@ first_more b bs l h = rw (value_more b bs l h) (go (leb_value bs))
 
 -- ---- the last byte, as if the bytes ended behind it
 module _ (v scale w behind : ℕ) where
-  pub last_padded : w ≡ 0 → Refused ≡ placed behind (joined v scale w [])
+  pub last_padded : w ≡ 0 → None ≡ placed behind (joined v scale w [])
   unfolding joined
   last_padded z = rw (eq-eqb w 0 z)
 
-  pub last_over : (w ≡ 0 → ⊥) → 2 ^ 64 ≤ v + w * scale → Refused ≡ placed behind (joined v scale w [])
+  pub last_over : (w ≡ 0 → ⊥) → 2 ^ 64 ≤ v + w * scale → None ≡ placed behind (joined v scale w [])
   unfolding joined of64
   last_over n h = rw (ne_eqb w 0 n, le-ltb (v + w * scale) (2 ^ 64) h)
 
-  pub last_fits : (x : ℕ) → (w ≡ 0 → ⊥) → x ≡ v + w * scale → x < 2 ^ 64 → Read x behind ≡ placed behind (joined v scale w [])
+  pub last_fits : (x : ℕ) → (w ≡ 0 → ⊥) → x ≡ v + w * scale → x < 2 ^ 64 → Some (x, behind) ≡ placed behind (joined v scale w [])
   unfolding joined of64
   last_fits x n e h =
       let k : v + w * scale < 2 ^ 64 = omega arith in
       let z : behind ≡ behind - 0 = omega arith in
-      rw (ne_eqb w 0 n, lt-ltb (v + w * scale) (2 ^ 64) k, e) (ap (Read (v + w * scale)) z)
+      rw (ne_eqb w 0 n, lt-ltb (v + w * scale) (2 ^ 64) k, e) (ap (λ (p : ℕ). Some ((v + w * scale), p)) z)
 
 -- the same where more bytes follow
 last_here : (v scale w m n : ℕ) (rest : List ℕ) → m ≡ n - length rest → placed m (joined v scale w []) ≡ placed n (joined v scale w rest)
@@ -94,7 +93,7 @@ last_here v scale w m n rest e = go (eqb w 0) (ltb (v + w * scale) (2 ^ 64))
     go : (p q : Bool) → placed m (pick p refused (pick q (front (v + w * scale) []) refused)) ≡ placed n (pick p refused (pick q (front (v + w * scale) rest) refused))
     go true q = refl
     go false false = refl
-    go false true = let k : m - 0 ≡ n - length rest = omega arith in ap (Read (v + w * scale)) k
+    go false true = let k : m - 0 ≡ n - length rest = omega arith in ap (λ (p : ℕ). Some ((v + w * scale), p)) k
 
 -- ---- scales
 -- what is known of a scale, a power of 128 that has 64 bits: it is the largest one, or at most the one below that
@@ -124,7 +123,7 @@ scale_more i from h = let k : i + 1 - from ≡ suc (i - from) = omega arith in r
 
 -- ---- at places. What a reading under way comes to does not change from turn to turn
 module _ (bytes : List ℕ) (v scale i : ℕ) (whole : Front) (inv : rest_of v scale (drop i bytes) ≡ whole) where
-  pub rest_end : length bytes ≤ i → Refused ≡ placed (length bytes) whole
+  pub rest_end : length bytes ≤ i → None ≡ placed (length bytes) whole
   unfolding rest_of leb_value
   rest_end h = sym (to_none (length bytes) whole (sym inv ∙ rw (drop_of_length-le bytes h)))
 
@@ -135,23 +134,23 @@ module _ (bytes : List ℕ) (v scale i : ℕ) (whole : Front) (inv : rest_of v s
     pub rest_turn : 128 ≤ b → b < 256 → rest_of (v + (b - 128) * scale) (scale * 128) (drop (i + 1) bytes) ≡ whole
     rest_turn l h = sym (rest_more v scale b (drop (i + 1) bytes) l h) ∙ sym at_byte ∙ inv
 
-    pub rest_done : (r : Piece) → b < 128 → r ≡ placed (i + 1) (joined v scale b []) → r ≡ placed (length bytes) whole
+    pub rest_done : (r : Option (ℕ × ℕ)) → b < 128 → r ≡ placed (i + 1) (joined v scale b []) → r ≡ placed (length bytes) whole
     rest_done r h e =
         let k : i + 1 ≡ length bytes - length (drop (i + 1) bytes) = omega (arith, length-drop (i + 1) bytes) in
         e ∙ last_here v scale b (i + 1) (length bytes) (drop (i + 1) bytes) k
         ∙ ap (placed (length bytes)) (sym (rest_last v scale b (drop (i + 1) bytes) h) ∙ sym at_byte ∙ inv)
 
     -- a tenth byte that is not 1: a 0 is padding, and any other is past 64 bits
-    pub rest_tenth : scale ≡ 2 ^ 63 → (b ≡ 1 → ⊥) → b < 256 → Refused ≡ placed (length bytes) whole
+    pub rest_tenth : scale ≡ 2 ^ 63 → (b ≡ 1 → ⊥) → b < 256 → None ≡ placed (length bytes) whole
     rest_tenth t n h =
-        below b 1 (λ z. rest_done Refused (omega arith) (last_padded v scale b (i + 1) (omega arith)))
+        below b 1 (λ z. rest_done None (omega arith) (last_padded v scale b (i + 1) (omega arith)))
         (λ one. below b 128
-        (λ l. let two : 2 ≤ b = omega (arith, n) in rest_done Refused l (last_over v scale b (i + 1) (λ z. omega arith) (let k = mul-le-mul_right scale two in omega arith)))
+        (λ l. let two : 2 ≤ b = omega (arith, n) in rest_done None l (last_over v scale b (i + 1) (λ z. omega arith) (let k = mul-le-mul_right scale two in omega arith)))
         (λ l. sym (to_none (length bytes) whole (sym (rest_turn l h) ∙ rest_over (v + (b - 128) * scale) (scale * 128) (drop (i + 1) bytes) (omega arith)))))
 
 -- ---- the first byte
 module _ (bytes : List ℕ) (at : ℕ) where
-  pub leb_none : length bytes ≤ at → Refused ≡ leb_at bytes at
+  pub leb_none : length bytes ≤ at → None ≡ leb_at bytes at
   unfolding leb_at read_leb leb_value
   leb_none h = rw (drop_of_length-le bytes h)
 
@@ -159,10 +158,10 @@ module _ (bytes : List ℕ) (at : ℕ) where
     at_first : read_leb (drop at bytes) ≡ read_leb (b ∷ drop (at + 1) bytes)
     at_first = rw (is, add-one, drop-cons bytes at 0 here)
 
-    pub leb_one : b < 128 → Read b (at + 1) ≡ leb_at bytes at
+    pub leb_one : b < 128 → Some (b, (at + 1)) ≡ leb_at bytes at
     unfolding leb_at
     leb_one h = sym (to_place bytes (read_leb (drop at bytes)) b (at + 1) (at_first ∙ first_last b (drop (at + 1) bytes) h) (omega arith))
 
-    pub leb_on : (r : Piece) → 128 ≤ b → b < 256 → r ≡ rest_at bytes (at + 1) (b - 128) 128 → r ≡ leb_at bytes at
+    pub leb_on : (r : Option (ℕ × ℕ)) → 128 ≤ b → b < 256 → r ≡ rest_at bytes (at + 1) (b - 128) 128 → r ≡ leb_at bytes at
     unfolding leb_at rest_at
     leb_on r l h e = e ∙ ap (placed (length bytes)) (sym (first_more b (drop (at + 1) bytes) l h) ∙ sym at_first)

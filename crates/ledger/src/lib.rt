@@ -54,10 +54,10 @@ pub fn see(ledger: &Ledger, sites: u64, link: usize) -> Seen
     let pair = read_pair(ledger, link);
     let sound = links_sound(ledger, sites);
     Seen {
-        counts: counts,
-        link: link,
-        pair: pair,
-        sound: sound,
+        counts,
+        link,
+        pair,
+        sound,
     }
 }
 

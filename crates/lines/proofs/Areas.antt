@@ -7,8 +7,8 @@ use native.Mathlib.Numerals.{add-one}
 use borrow.Author.Tests.{lt-ltb, le-ltb}
 use lib.Bits.{bit_and, and_mask}
 use lib.ListN.{length, set}
-use Rattle.rules.specs.declared.Line.TheVariants.{Numbers, NoLine}
-use Rattle.rules.specs.meaning.Lines.{numbers_of}
+use Rattle.std.specs.Prelude.{None}
+use Rattle.rules.specs.meaning.Lines.{numbers_of, four}
 use Rattle.rules.specs.meaning.Refusals.{first_given}
 use Rattle.rules.specs.meaning.Put.{put}
 use Rattle.rules.proofs.laws.Put.{put_nil, put_cons}
@@ -31,11 +31,11 @@ module _ (line area : List ℕ) where
   unfolding read_refusal area_after first_given
   area_short h = let e = lt-ltb (length area) 32 h in (rw e, rw e)
 
-  pub area_none : 32 ≤ length area → NoLine ≡ numbers_of line → (11 ≡ read_refusal line area) × (area ≡ area_after line area)
+  pub area_none : 32 ≤ length area → None ≡ numbers_of line → (11 ≡ read_refusal line area) × (area ≡ area_after line area)
   unfolding read_refusal area_after first_given is_no_line
   area_none h e = let l = le-ltb (length area) 32 h in (rw (l, ← e), rw (l, ← e))
 
-  pub area_laid : (kind first second i : ℕ) (a₁ a₂ a₃ a₄ : List ℕ) → 32 ≤ length area → Numbers kind first second i ≡ numbers_of line
+  pub area_laid : (kind first second i : ℕ) (a₁ a₂ a₃ a₄ : List ℕ) → 32 ≤ length area → four kind first second i ≡ numbers_of line
       → a₁ ≡ put area 0 (word kind) → a₂ ≡ put a₁ 8 (word first) → a₃ ≡ put a₂ 16 (word second) → a₄ ≡ put a₃ 24 (word i)
       → (0 ≡ read_refusal line area) × (a₄ ≡ area_after line area)
   unfolding read_refusal area_after first_given is_no_line laid

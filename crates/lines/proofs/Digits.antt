@@ -8,7 +8,7 @@ use native.Mathlib.Numerals.{add-one}
 use borrow.Author.Tests.{ltb-true, ltb-false, lt-ltb, le-ltb}
 use lib.ListN.{length, get_or, drop, length-drop, drop_of_length-le}
 use lib.Seq.{drop-cons}
-use Rattle.rules.specs.declared.Piece.TheVariants.{Read, Refused}
+use Rattle.std.specs.Prelude.{Some, None}
 use Rattle.rules.specs.meaning.Text.{front, refused, pick}
 use Rattle.rules.specs.meaning.Number.{most_digits, digit_of, is_digit, starts_digit, digit_run, fair, judged, read_number}
 use Rattle.rules.proofs.laws.line.Numbers.{digit_is, run_stop, run_front, run_grows, fair_yes, fair_empty, fair_long, fair_large}
@@ -62,18 +62,18 @@ unfolding read_number judged
 judged_empty xs v e = let k : length xs - length xs ≡ 0 = omega arith in rw (e, k, fair_empty v)
 
 -- ---- the ways out
-pub refuse_over : (line : List ℕ) (place v i d : ℕ) → i < length line → d ≡ digit_of (get_or line i 0) → d < 10 → digit_run v (drop i line) ≡ digit_run 0 (drop place line) → 2 ^ 64 ≤ v * 10 + d → Refused ≡ number_at line place
+pub refuse_over : (line : List ℕ) (place v i d : ℕ) → i < length line → d ≡ digit_of (get_or line i 0) → d < 10 → digit_run v (drop i line) ≡ digit_run 0 (drop place line) → 2 ^ 64 ≤ v * 10 + d → None ≡ number_at line place
 unfolding number_at
 refuse_over line place v i d h e s inv l = sym (to_none (length line) (read_number (drop place line)) (over (drop place line) (drop (i + 1) line) (v * 10 + d) (run_more line place v i d h e s inv) l))
 
-pub refuse_empty : (line : List ℕ) (place v i : ℕ) → digit_run 0 (drop place line) ≡ front v (drop i line) → i ≡ place → Refused ≡ number_at line place
+pub refuse_empty : (line : List ℕ) (place v i : ℕ) → digit_run 0 (drop place line) ≡ front v (drop i line) → i ≡ place → None ≡ number_at line place
 unfolding number_at
 refuse_empty line place v i e z = sym (to_none (length line) (read_number (drop place line)) (judged_empty (drop place line) v (e ∙ ap (λ (k : ℕ). front v (drop k line)) z)))
 
-pub refuse_long : (line : List ℕ) (place v i : ℕ) → place ≤ i → i ≤ length line → digit_run 0 (drop place line) ≡ front v (drop i line) → most_digits < i - place → Refused ≡ number_at line place
+pub refuse_long : (line : List ℕ) (place v i : ℕ) → place ≤ i → i ≤ length line → digit_run 0 (drop place line) ≡ front v (drop i line) → most_digits < i - place → None ≡ number_at line place
 unfolding number_at
 refuse_long line place v i p q e m = sym (to_none (length line) (read_number (drop place line)) (judged_at line place i v p q e ∙ rw (fair_long (i - place) v m)))
 
-pub accept : (line : List ℕ) (place v i : ℕ) → place < i → i ≤ length line → digit_run 0 (drop place line) ≡ front v (drop i line) → i - place ≤ most_digits → v < 2 ^ 64 → Read v i ≡ number_at line place
+pub accept : (line : List ℕ) (place v i : ℕ) → place < i → i ≤ length line → digit_run 0 (drop place line) ≡ front v (drop i line) → i - place ≤ most_digits → v < 2 ^ 64 → Some (v, i) ≡ number_at line place
 unfolding number_at
 accept line place v i p q e m h = sym (to_place line (read_number (drop place line)) v i (judged_at line place i v (omega arith) q e ∙ rw (fair_yes (i - place) v (omega arith) m h)) q)

@@ -4,8 +4,7 @@ use mathlib.Core.Bool.{Bool, true, false, cond}
 use mathlib.Core.List.{List}
 use Prim.Native.Nat.{ℕ, ◌+◌, ◌≤◌}
 use lib.ListN.{length, drop, length-append}
-use Rattle.rules.specs.declared.Piece.{Piece}
-use Rattle.rules.specs.declared.Piece.TheVariants.{Read, Refused}
+use Rattle.std.specs.Prelude.{Option, Some, None}
 use Rattle.rules.specs.meaning.Text.{front, behind}
 use Rattle.rules.specs.meaning.Number.{digits}
 use Rattle.rules.specs.meaning.Lines.{field, read_field}
@@ -14,20 +13,20 @@ use Rattle.rules.proofs.laws.line.Places.{to_place, from_none, text_says}
 use Rattle.rules.specs.meaning.Put.{put}
 use Rattle.rules.proofs.laws.Put.{put_nil, put_put}
 
-pub field_off : (used : Bool) (name line : List ℕ) (place : ℕ) → used ≡ false → place ≤ length line → Read 0 place ≡ field_at used name line place
+pub field_off : (used : Bool) (name line : List ℕ) (place : ℕ) → used ≡ false → place ≤ length line → Some (0, place) ≡ field_at used name line place
 unfolding field_at read_field
 field_off used name line place u h = rw u (sym (to_place line (front 0 (drop place line)) 0 place refl h))
 
-pub field_none : (used : Bool) (name line : List ℕ) (place : ℕ) → used ≡ true → Refused ≡ text_at line place name → Refused ≡ field_at used name line place
+pub field_none : (used : Bool) (name line : List ℕ) (place : ℕ) → used ≡ true → None ≡ text_at line place name → None ≡ field_at used name line place
 unfolding field_at read_field text_at
 field_none used name line place u e = rw (u, from_none (length line) (behind name (drop place line)) (sym e))
 
-pub field_on : (used : Bool) (name line : List ℕ) (place v i : ℕ) (r : Piece) → used ≡ true → Read v i ≡ text_at line place name → r ≡ number_at line i → r ≡ field_at used name line place
+pub field_on : (used : Bool) (name line : List ℕ) (place v i : ℕ) (r : Option (ℕ × ℕ)) → used ≡ true → Some (v, i) ≡ text_at line place name → r ≡ number_at line i → r ≡ field_at used name line place
 unfolding field_at read_field number_at
 field_on used name line place v i r u e n = rw (u, (text_says line place name v i (sym e)).0) n
 
 -- the code holds the test as a value
-pub for_use : {u w : Bool} {r : Piece} (name line : List ℕ) (place : ℕ) → r ≡ field_at u name line place → u ≡ w → r ≡ field_at w name line place
+pub for_use : {u w : Bool} {r : Option (ℕ × ℕ)} (name line : List ℕ) (place : ℕ) → r ≡ field_at u name line place → u ≡ w → r ≡ field_at w name line place
 for_use name line place e q = rw (← q) e
 
 field_length : (used : Bool) (name : List ℕ) (n : ℕ) → length (field used name n) ≡ cond used (length name + length (digits n)) 0

@@ -6,7 +6,7 @@ use Prim.Native.Nat.{ℕ, zero, suc, ◌≤◌, ◌<◌}
 use native.Mathlib.Omega.{arith}
 use lib.Dec.{eqb}
 use lib.ListN.{length, get_or, take, drop, length-append, get_or-append}
-use Rattle.rules.specs.declared.Piece.TheVariants.{Read, Refused}
+use Rattle.std.specs.Prelude.{Some, None}
 use Rattle.rules.specs.meaning.Text.{front, refused, behind}
 use Rattle.rules.specs.meaning.Lines.{lead, kind_of}
 use Rattle.rules.proofs.laws.line.Lines.{kind_lead, kind_text, behind_is, behind_text, front_cases}
@@ -79,14 +79,14 @@ begins line k rest e =
       long = omega (arith, s.long, ap length t.2, length-append (lead k) rest);
     }
 
-pub kind_short : (line : List ℕ) → length line < 7 → Refused ≡ kind_at line
+pub kind_short : (line : List ℕ) → length line < 7 → None ≡ kind_at line
 unfolding kind_at
 kind_short line h =
     front_cases (kind_of line)
     (λ n. sym (to_none (length line) (kind_of line) n))
     (λ k r e. absurd (omega (arith, (begins line k r e).long)))
 
-pub kind_found : (line : List ℕ) (kind : ℕ) → 1 ≤ kind → kind ≤ 8 → (v i : ℕ) → Read v i ≡ text_at line 0 (lead kind) → Read kind i ≡ kind_at line
+pub kind_found : (line : List ℕ) (kind : ℕ) → 1 ≤ kind → kind ≤ 8 → (v i : ℕ) → Some (v, i) ≡ text_at line 0 (lead kind) → Some (kind, i) ≡ kind_at line
 unfolding kind_at
 kind_found line kind p q v i e =
     let s = text_says line 0 (lead kind) v i (sym e) in
@@ -95,7 +95,7 @@ kind_found line kind p q v i e =
 
 -- no other kind has the two bytes, so where its lead does not stand no lead does
 pub kind_other : (line : List ℕ) (kind : ℕ) → ((k : ℕ) → 1 ≤ k → k ≤ 8 → get_or (lead k) 5 0 ≡ get_or line 5 0 → get_or (lead k) 6 0 ≡ get_or line 6 0 → k ≡ kind)
-    → Refused ≡ text_at line 0 (lead kind) → Refused ≡ kind_at line
+    → None ≡ text_at line 0 (lead kind) → None ≡ kind_at line
 unfolding kind_at text_at
 kind_other line kind one e =
     front_cases (kind_of line)

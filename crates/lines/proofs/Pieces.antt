@@ -7,7 +7,7 @@ use native.Mathlib.Numerals.{add-one}
 use borrow.Author.Tests.{eq-eqb, ne_eqb}
 use lib.ListN.{length, get_or, drop, length-append, length-drop, drop_of_length-le}
 use lib.Seq.{drop-cons}
-use Rattle.rules.specs.declared.Piece.TheVariants.{Read, Refused}
+use Rattle.std.specs.Prelude.{Some, None}
 use Rattle.rules.specs.meaning.Text.{front, refused, behind}
 use Rattle.rules.proofs.laws.line.Lines.{behind_text, front_cases}
 use Rattle.rules.specs.meaning.Places.{text_at}
@@ -31,7 +31,7 @@ behind_end : (line text : List ℕ) (i j : ℕ) → length text ≤ j → behind
 unfolding behind
 behind_end line text i j p = rw (drop_of_length-le text p)
 
-pub text_short : (line : List ℕ) (place : ℕ) (text : List ℕ) → length line - place < length text → Refused ≡ text_at line place text
+pub text_short : (line : List ℕ) (place : ℕ) (text : List ℕ) → length line - place < length text → None ≡ text_at line place text
 unfolding text_at
 text_short line place text h = sym (to_none (length line) (behind text (drop place line)) (behind_short text (drop place line) (omega (arith, length-drop place line))))
 
@@ -47,10 +47,10 @@ module _ (line : List ℕ) (place : ℕ) (text : List ℕ) where
     pub text_more : place + j < length line → j < length text → get_or line (place + j) 0 ≡ get_or text j 0 → Kept (j + 1)
     text_more p q e = let k : place + (j + 1) ≡ place + j + 1 = omega arith in rw k (sym (behind_turn line text (place + j) j p q e) ∙ kept)
 
-    pub text_other : place + j < length line → j < length text → (get_or line (place + j) 0 ≡ get_or text j 0 → ⊥) → Refused ≡ text_at line place text
+    pub text_other : place + j < length line → j < length text → (get_or line (place + j) 0 ≡ get_or text j 0 → ⊥) → None ≡ text_at line place text
     unfolding text_at
     text_other p q e = sym (to_none (length line) (behind text (drop place line)) (sym kept ∙ behind_other line text (place + j) j p q e))
 
-    pub text_end : length text ≤ j → place + j ≤ length line → Read 0 (place + j) ≡ text_at line place text
+    pub text_end : length text ≤ j → place + j ≤ length line → Some (0, (place + j)) ≡ text_at line place text
     unfolding text_at
     text_end p q = sym (to_place line (behind text (drop place line)) 0 (place + j) (sym kept ∙ behind_end line text (place + j) j p) q)

@@ -7,10 +7,9 @@ use native.Mathlib.Omega.{arith}
 use borrow.Author.Tests.{le-leb, lt-leb}
 use lib.Dec.{eqb}
 use lib.ListN.{get_or}
-use Rattle.rules.specs.declared.Line.TheVariants.{Numbers, NoLine}
-use Rattle.rules.specs.declared.Named.{Named}
-use Rattle.rules.specs.declared.Named.TheVariants.{NoStep}
-use Rattle.rules.specs.meaning.Lines.{has_second, has_id, names_step, numbers_of}
+use Rattle.std.specs.Prelude.{Option, None}
+use Rattle.rules.specs.declared.Step.{Step}
+use Rattle.rules.specs.meaning.Lines.{has_second, has_id, names_step, numbers_of, four}
 use Rattle.rules.specs.meaning.StepLines.{steps, step_for, step_in, step_of}
 
 module _ (kind second i : ℕ) where
@@ -34,21 +33,21 @@ module _ (kind second i : ℕ) where
         es ∙ ap (λ (t : Bool). t || eqb i 0) ew ∙ simp (le-leb 1 kind p, le-leb kind 8 q, z)
 
 -- ---- which step
-pub step_at : (k kind first second i : ℕ) → k ≤ kind → kind ≤ k → get_or (steps first second i) k NoStep ≡ get_or (steps first second i) kind NoStep
-step_at k kind first second i p q = let e : k ≡ kind = omega arith in ap (λ (j : ℕ). get_or (steps first second i) j NoStep) e
+pub step_at : (k kind first second i : ℕ) → k ≤ kind → kind ≤ k → get_or (steps first second i) k None ≡ get_or (steps first second i) kind None
+step_at k kind first second i p q = let e : k ≡ kind = omega arith in ap (λ (j : ℕ). get_or (steps first second i) j None) e
 
-pub step_none : (kind first second i : ℕ) → names_step kind second i ≡ false → NoStep ≡ step_for kind first second i
+pub step_none : (kind first second i : ℕ) → names_step kind second i ≡ false → None ≡ step_for kind first second i
 unfolding step_for
 step_none kind first second i e = rw e
 
-pub step_is : (kind first second i : ℕ) (n : Named) → names_step kind second i ≡ true → n ≡ get_or (steps first second i) kind NoStep → n ≡ step_for kind first second i
+pub step_is : (kind first second i : ℕ) (n : Option Step) → names_step kind second i ≡ true → n ≡ get_or (steps first second i) kind None → n ≡ step_for kind first second i
 unfolding step_for
 step_is kind first second i n e h = rw e h
 
-pub line_none : (line : List ℕ) → NoLine ≡ numbers_of line → NoStep ≡ step_of line
+pub line_none : (line : List ℕ) → None ≡ numbers_of line → None ≡ step_of line
 unfolding step_of step_in
 line_none line e = rw (← e)
 
-pub line_is : (line : List ℕ) (kind first second i : ℕ) (n : Named) → Numbers kind first second i ≡ numbers_of line → n ≡ step_for kind first second i → n ≡ step_of line
+pub line_is : (line : List ℕ) (kind first second i : ℕ) (n : Option Step) → four kind first second i ≡ numbers_of line → n ≡ step_for kind first second i → n ≡ step_of line
 unfolding step_of step_in
 line_is line kind first second i n e h = rw (← e) h

@@ -4,7 +4,7 @@ ghost use Rattle.rules.specs.meaning.Area.{word, read_refusal, area_after};
 ghost use Rattle.rules.specs.meaning.Put.{put};
 
 use crate::read::read_line;
-use rules::Line;
+use rules::Numbers;
 
 // Writes a number in eight bytes at a place, the lowest first.
 fn write_word(out: &mut [u8], place: usize, n: u64)
@@ -28,7 +28,15 @@ pub fn read_into(line: &[u8], area: &mut [u8]) -> u32
     if area.len() < 32 {
         return 13;
     }
-    let Line::Numbers(kind, first, second, id) = read_line(line) else {
+    let Some(
+        Numbers {
+            kind,
+            first,
+            second,
+            id,
+        },
+    ) = read_line(line)
+    else {
         return 11;
     };
     write_word(area, 0, kind);

@@ -7,19 +7,16 @@ ghost use Rattle.rules.specs.meaning.Put.{put};
 
 use crate::number::{places, read_number, write_number};
 use crate::text::{read_text, write_text};
-use rules::Piece;
 
 // The number behind its name, and the place behind it. One that is not used is 0 and takes no byte.
-pub(crate) fn read_field(used: bool, name: &[u8], line: &[u8], place: usize) -> Piece
+pub(crate) fn read_field(used: bool, name: &[u8], line: &[u8], place: usize) -> Option<(u64, usize)>
     requires { place ≤ length line.now }
     ensures { result ≡ field_at used name.now line.now place }
 {
     if !used {
-        return Piece::Read(0, place);
+        return Some((0, place));
     }
-    let Piece::Read(_, i) = read_text(line, place, name) else {
-        return Piece::Refused;
-    };
+    let (_, i) = read_text(line, place, name)?;
     read_number(line, i)
 }
 

@@ -5,7 +5,6 @@ ghost use Rattle.rules.specs.meaning.Places.{kind_at};
 ghost use Rattle.rules.specs.meaning.Put.{put};
 
 use crate::text::{read_text, write_text};
-use rules::Piece;
 
 // How many bytes stand before the first number of a line.
 pub(crate) fn lead_len(kind: u64) -> usize
@@ -104,19 +103,17 @@ fn only_kind(a: u8, b: u8) -> u64
 }
 
 // The kind of a line, and the place behind its lead. Two bytes leave one kind, so a line is held to one lead and not to eight.
-pub(crate) fn read_kind(line: &[u8]) -> Piece
+pub(crate) fn read_kind(line: &[u8]) -> Option<(u64, usize)>
     ensures { result ≡ kind_at line.now }
 {
     if line.len() < 7 {
-        return Piece::Refused;
+        return None;
     }
     let kind = only_kind(line[5], line[6]);
     let n = lead_len(kind);
     let text = lead_text(kind);
-    let Piece::Read(_, i) = read_text(line, 0, &text[..n]) else {
-        return Piece::Refused;
-    };
-    Piece::Read(kind, i)
+    let (_, i) = read_text(line, 0, &text[..n])?;
+    Some((kind, i))
 }
 
 // Whether a line of a kind names a second site: send and merge do.

@@ -4,8 +4,6 @@ ghost use Rattle.rules.specs.meaning.Number.{most_digits, is_digit, digits};
 ghost use Rattle.rules.specs.meaning.Places.{number_at};
 ghost use Rattle.rules.specs.meaning.Put.{put};
 
-use rules::Piece;
-
 // How many digits a number that is read may have, zeros in front among them; the largest number has as many.
 const MOST_DIGITS: usize = 20;
 
@@ -17,7 +15,7 @@ fn is_digit(c: u8) -> bool
 
 // The number that stands at a place of a line, and the place behind it: up to 20 digits, zeros in front among them. A value that leaves 64 bits is refused
 // at the digit that does it.
-pub(crate) fn read_number(line: &[u8], place: usize) -> Piece
+pub(crate) fn read_number(line: &[u8], place: usize) -> Option<(u64, usize)>
     ensures { result ≡ number_at line.now place }
 {
     let mut v: u64 = 0;
@@ -29,22 +27,22 @@ pub(crate) fn read_number(line: &[u8], place: usize) -> Piece
         }
         let d = (c - 48) as u64;
         if v > 1844674407370955161 {
-            return Piece::Refused;
+            return None;
         }
         let t = v * 10;
         if d > 18446744073709551615 - t {
-            return Piece::Refused;
+            return None;
         }
         v = t + d;
         i += 1;
     }
     if i == place {
-        return Piece::Refused;
+        return None;
     }
     if i - place > MOST_DIGITS {
-        return Piece::Refused;
+        return None;
     }
-    Piece::Read(v, i)
+    Some((v, i))
 }
 
 // How many digits a number has. Four go with each division, as a division costs more than a comparison; a single digit, the common case of a

@@ -6,7 +6,7 @@ ghost use Rattle.rules.specs.meaning.StepLines.{steps, step_for, step_of};
 
 use crate::kind::{has_id, has_second};
 use crate::read::read_line;
-use rules::{Line, Named, Step};
+use rules::{Numbers, Step};
 
 // "unused ones 0": whether a number is what it may be.
 fn is_proper(used: bool, n: u64) -> bool
@@ -71,21 +71,24 @@ fn step_of_kind(kind: u64, first: u64, second: u64, id: u64) -> Step
 }
 
 // The step that four numbers name, or none.
-pub fn step_for(kind: u64, first: u64, second: u64, id: u64) -> Named
+pub fn step_for(kind: u64, first: u64, second: u64, id: u64) -> Option<Step>
     ensures { result ≡ step_for kind first second id }
 {
     if !names_step(kind, second, id) {
-        return Named::NoStep;
+        return None;
     }
-    Named::Is(step_of_kind(kind, first, second, id))
+    Some(step_of_kind(kind, first, second, id))
 }
 
 // The step of a line, or none.
-pub fn read_step(line: &[u8]) -> Named
+pub fn read_step(line: &[u8]) -> Option<Step>
     ensures { result ≡ step_of line.now }
 {
-    let Line::Numbers(kind, first, second, id) = read_line(line) else {
-        return Named::NoStep;
-    };
+    let Numbers {
+        kind,
+        first,
+        second,
+        id,
+    } = read_line(line)?;
     step_for(kind, first, second, id)
 }

@@ -3,24 +3,22 @@ ghost use Rattle.std.specs.Prelude.{◌≡◌, ◌+◌, ◌≤◌, length};
 ghost use Rattle.rules.specs.meaning.Places.{text_at};
 ghost use Rattle.rules.specs.meaning.Put.{put};
 
-use rules::Piece;
-
 // The place behind a piece of text, where the piece stands at a place of the line. That the line is long enough is asked once, before its bytes.
-pub(crate) fn read_text(line: &[u8], place: usize, text: &[u8]) -> Piece
+pub(crate) fn read_text(line: &[u8], place: usize, text: &[u8]) -> Option<(u64, usize)>
     requires { place ≤ length line.now }
     ensures { result ≡ text_at line.now place text.now }
 {
     if line.len() - place < text.len() {
-        return Piece::Refused;
+        return None;
     }
     let mut j = 0;
     while j < text.len() {
         if line[place + j] != text[j] {
-            return Piece::Refused;
+            return None;
         }
         j += 1;
     }
-    Piece::Read(0, place + j)
+    Some((0, place + j))
 }
 
 // Writes a piece of text at a place, and answers the place behind it.

@@ -32,7 +32,7 @@ pub fn sent_pair(pair: Pair) -> Pair
 {
     let next = next_serial(pair.next);
     Pair {
-        next: next,
+        next,
         heard: pair.heard,
         unsent: 0,
         unheard: pair.unheard,

@@ -38,9 +38,9 @@ pub fn next_link(link: Link, n: usize) -> Link
     if to < n {
         return Link {
             from: link.from,
-            to: to,
+            to,
         };
     }
     let from = link.from + 1;
-    Link { from: from, to: 0 }
+    Link { from, to: 0 }
 }

@@ -17,11 +17,7 @@ fn fill_evenly(table: &mut [u64], entries: &[u64], left: Left)
     let mut others = left.others;
     let mut place = left.place;
     while 0 < others {
-        let before = Left {
-            own: own,
-            others: others,
-            place: place,
-        };
+        let before = Left { own, others, place };
         let next = turn(
             table,
             before,
@@ -44,9 +40,9 @@ fn fill_sparsely(table: &mut [u64], entries: &[u64], left: Left)
     let mut place = left.place;
     while 0 < few {
         let before = Left {
-            own: own,
+            own,
             others: few,
-            place: place,
+            place,
         };
         let id = entries[2 * few - 2];
         let length = entries[2 * few - 1];

@@ -76,7 +76,7 @@ pub(crate) fn turn(table: &mut [u64], left: Left, id: u64, length: u64) -> Left
         return Left {
             own: 0,
             others: others - 1,
-            place: place,
+            place,
         };
     }
     let now = settle(table[2 * own - 2], 0, table[2 * own - 1], id, 0, length);
@@ -84,7 +84,7 @@ pub(crate) fn turn(table: &mut [u64], left: Left, id: u64, length: u64) -> Left
     Left {
         own: own - now.own,
         others: others - now.others,
-        place: place,
+        place,
     }
 }
 
@@ -115,8 +115,8 @@ pub(crate) fn slide(table: &mut [u64], left: Left, id: u64) -> Left
         put(table, 2 * place, mine, kept);
     }
     Left {
-        own: own,
+        own,
         others: left.others,
-        place: place,
+        place,
     }
 }

@@ -29,11 +29,7 @@ fn four(words: &mut [u64], to: usize, from: usize, left: Left) -> Left
         put(words, to + 2 * place, id, most);
         k += 1;
     }
-    Left {
-        own: own,
-        others: others,
-        place: place,
-    }
+    Left { own, others, place }
 }
 
 // Eight turns far from both ends. The ids before those compared are read a turn before they are chosen or not, and before an entry is put, so that no turn
@@ -66,11 +62,7 @@ fn eight(words: &mut [u64], to: usize, from: usize, left: Left) -> Left
         last = now.last;
         k += 1;
     }
-    Left {
-        own: own,
-        others: others,
-        place: place,
-    }
+    Left { own, others, place }
 }
 
 // Whether the last four ids that are left of the table are those of the source.
@@ -124,11 +116,7 @@ fn fill(words: &mut [u64], to: usize, from: usize, wide: usize, left: Left)
     let mut others = left.others;
     let mut place = left.place;
     while 0 < others {
-        let before = Left {
-            own: own,
-            others: others,
-            place: place,
-        };
+        let before = Left { own, others, place };
         let next = onward(words, to, end, from, before);
         own = next.own;
         others = next.others;

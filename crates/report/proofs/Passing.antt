@@ -7,9 +7,9 @@ use mathlib.Core.Path.{◌≡◌, refl, sym, ap, subst, ◌∙◌}
 use mathlib.Core.List.{List, [], ◌∷◌, ◌++◌, append-nil}
 use lib.ListN.{length, take, drop, get_or}
 use lib.Seq.{slice, slice_empty, drop-length}
+use Rattle.std.specs.Prelude.{Option, Some, None}
+use Rattle.rules.specs.declared.Step.{Step}
 use Rattle.rules.specs.declared.Answer.{Answer}
-use Rattle.rules.specs.declared.Named.{Named}
-use Rattle.rules.specs.declared.Named.TheVariants.{Is, NoStep}
 use Rattle.rules.specs.meaning.States.{State, StateSound}
 use Rattle.rules.specs.meaning.Acts.{Acted, answer_under, after_under}
 use Rattle.rules.specs.meaning.Runs.{after}
@@ -74,7 +74,7 @@ module _ (input : List ℕ) (start : ℕ) where
         ∙ ap (λ (i : ℕ). report_from n s (slice start i input) (drop i input)) z
 
     -- the line is ended
-    pub next_line : (named : Named) (r : Ahead) → end < length input → named ≡ step_of (take (end - start) (drop start input)) → r ≡ ahead named (end + 1) → Next input start r
+    pub next_line : (named : Option Step) (r : Ahead) → end < length input → named ≡ step_of (take (end - start) (drop start input)) → r ≡ ahead named (end + 1) → Next input start r
     next_line named r h read is = subst (Next input start) (sym is) (record {
       names = named;
       is = refl;
@@ -92,18 +92,18 @@ module _ (input : List ℕ) (start : ℕ) where
         goes_on n s = rw (same, slice_empty (suc end) input, add-one end)
 
     -- or the input ends before it
-    pub next_unended : (r : Ahead) → start < length input → end ≡ length input → r ≡ ahead NoStep end → Next input start r
+    pub next_unended : (r : Ahead) → start < length input → end ≡ length input → r ≡ ahead None end → Next input start r
     unfolding named_after
     next_unended r h at is = subst (Next input start) (sym is) (record {
-      names = NoStep;
+      names = None;
       is = refl;
       behind = omega arith;
       inside = omega arith;
       report = λ n s. up_to n s ∙ ap (λ (i : ℕ). report_from n s (slice start i input) (drop i input)) at ∙ report_unended_at n s input start h ∙ goes_on n s;
     })
       where
-        goes_on : (n : ℕ) (s : State) → refused_line n 11 ++ end_lines s ≡ said_of n s NoStep ++ report_from (suc n) s [] (drop end input)
-        goes_on n s = rw (said_none n s NoStep refl, at, drop-length input, report_done (suc n) s)
+        goes_on : (n : ℕ) (s : State) → refused_line n 11 ++ end_lines s ≡ said_of n s None ++ report_from (suc n) s [] (drop end input)
+        goes_on n s = rw (said_none n s None refl, at, drop-length input, report_done (suc n) s)
 
 -- ---- the pass
 -- line n begins at `start`, the state is s, and what is left of the report goes to `place`; `first` is the buffer as it was lent
@@ -122,11 +122,11 @@ passed_start input first r = record {
 }
 
 -- what the inner step answers and leaves is what the line says and leaves
-acted_says : (n : ℕ) (s : State) (names : Named) (a : Answer) (left : State) → Acted (refused_as names) report_run s (asked_step names) a left
+acted_says : (n : ℕ) (s : State) (names : Option Step) (a : Answer) (left : State) → Acted (refused_as names) report_run s (asked_step names) a left
     → (said_of n s names ≡ line_by a.refusal n (asked_step names) a.value) × (left ≡ named_after report_run s names)
 unfolding answer_under after_under named_after
-acted_says n s (Is step) a left did = (said_step n s (Is step) step a refl did.answer, did.state)
-acted_says n s NoStep a left did = (said_none n s NoStep refl ∙ rw did.answer, did.state)
+acted_says n s (Some step) a left did = (said_step n s (Some step) step a refl did.answer, did.state)
+acted_says n s None a left did = (said_none n s None refl ∙ rw did.answer, did.state)
 
 -- a line, where the inner step was asked for what the line asks for
 module _ (input first out : List ℕ) (s : State) (n start place : ℕ) (p : Passed input first out s n start place) (l : Ahead) (next : Next input start l)

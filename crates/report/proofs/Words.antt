@@ -6,12 +6,11 @@ use mathlib.Core.Path.{◌≡◌, refl, sym, ap, ◌∙◌}
 use mathlib.Core.Bool.{Bool, true, false, cond}
 use mathlib.Core.List.{List, [], ◌∷◌, ◌++◌, append_assoc}
 use lib.ListN.{length}
+use Rattle.std.specs.Prelude.{Option, Some, None}
 use Rattle.rules.specs.declared.Counts.{Counts}
 use Rattle.rules.specs.declared.Answer.{Answer}
 use Rattle.rules.specs.declared.Step.{Step}
 use Rattle.rules.specs.declared.Step.TheVariants.{Add, Remove, Query, Send, Merge, Deliver, Again, Lose}
-use Rattle.rules.specs.declared.Named.{Named}
-use Rattle.rules.specs.declared.Named.TheVariants.{Is, NoStep}
 use Rattle.rules.specs.meaning.Lengths.{listed}
 use Rattle.rules.specs.meaning.Operations.{answer}
 use Rattle.rules.specs.meaning.States.{State}
@@ -82,11 +81,11 @@ line_answer : (r v n : ℕ) (step : Step) → line_by (answer r v).refusal n ste
 line_answer zero v n step = refl
 line_answer (suc r) v n step = refl
 
-pub said_none : (n : ℕ) (s : State) (r : Named) → r ≡ NoStep → said_of n s r ≡ refused_line n 11
+pub said_none : (n : ℕ) (s : State) (r : Option Step) → r ≡ None → said_of n s r ≡ refused_line n 11
 unfolding said_of
 said_none n s r e = rw e
 
-pub said_step : (n : ℕ) (s : State) (r : Named) (step : Step) (a : Answer) → r ≡ Is step → a ≡ answer_of report_run s step → said_of n s r ≡ line_by a.refusal n step a.value
+pub said_step : (n : ℕ) (s : State) (r : Option Step) (step : Step) (a : Answer) → r ≡ Some step → a ≡ answer_of report_run s step → said_of n s r ≡ line_by a.refusal n step a.value
 unfolding said_of
 said_step n s r step a e h = rw (e, h) (sym (line_answer (refusal_of report_run s step) (value_of report_run s step) n step))
 
@@ -103,7 +102,7 @@ line_short : (r n : ℕ) (step : Step) (m : ℕ) → n < 100000 → r ≤ 99 →
 line_short zero n step m p q = accepted_short n step m p
 line_short (suc r) n step m p q = let a : length (refused_line n (suc r)) ≤ 22 = refused_within n (suc r) p (omega arith) in omega arith
 
-pub said_short : (n : ℕ) (s : State) (r : Named) → n < 100000 → length (said_of n s r) ≤ 99
+pub said_short : (n : ℕ) (s : State) (r : Option Step) → n < 100000 → length (said_of n s r) ≤ 99
 unfolding said_of
-said_short n s (Is step) p = line_short (refusal_of report_run s step) n step (value_of report_run s step) p (refusal_within report_run s step)
-said_short n s NoStep p = let a = refused_within n 11 p (omega arith) in omega arith
+said_short n s (Some step) p = line_short (refusal_of report_run s step) n step (value_of report_run s step) p (refusal_within report_run s step)
+said_short n s None p = let a = refused_within n 11 p (omega arith) in omega arith

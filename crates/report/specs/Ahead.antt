@@ -1,8 +1,6 @@
 -- The next line of the input, which begins at a place: where it ends, what it asks for, and how the report goes on behind it.
 -- Assumes nothing.
-use Rattle.std.specs.Prelude.{ℕ, suc, ◌≤◌, ◌<◌, ◌≡◌, List, [], ◌++◌, length, drop, get_or}
-use Rattle.rules.specs.declared.Named.{Named}
-use Rattle.rules.specs.declared.Named.TheVariants.{Is, NoStep}
+use Rattle.std.specs.Prelude.{ℕ, suc, ◌≤◌, ◌<◌, ◌≡◌, List, [], ◌++◌, length, drop, get_or, Option, Some, None}
 use Rattle.rules.specs.declared.Step.{Step}
 use Rattle.rules.specs.declared.Step.TheVariants.{Query}
 use Rattle.rules.specs.meaning.States.{State}
@@ -22,20 +20,20 @@ pub record Ends (input : List ℕ) (start end : ℕ) : Type 0 where
   pub ends : end < length input → get_or input end 0 ≡ line_end
 
 -- what is asked of the inner step: where a line names no step, one that 11 keeps from being taken
-abbrev pub refused_as : Named → ℕ
-refused_as (Is step) = 0
-refused_as NoStep = 11
+abbrev pub refused_as : Option Step → ℕ
+refused_as (Some step) = 0
+refused_as None = 11
 
-abbrev pub asked_step : Named → Step
-asked_step (Is step) = step
-asked_step NoStep = Query 0 0
+abbrev pub asked_step : Option Step → Step
+asked_step (Some step) = step
+asked_step None = Query 0 0
 
-abbrev pub ahead : Named → ℕ → Ahead
+abbrev pub ahead : Option Step → ℕ → Ahead
 ahead names next = record { refusal = refused_as names; step = asked_step names; next = next }
 
 -- the report from the line on, whatever its number and the state, is what the line says and the report from the next line on
 pub record Next (input : List ℕ) (start : ℕ) (r : Ahead) : Type 0 where
-  pub names : Named
+  pub names : Option Step
   pub is : r ≡ ahead names r.next
   pub behind : start < r.next
   pub inside : r.next ≤ length input

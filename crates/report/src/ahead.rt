@@ -4,7 +4,7 @@ ghost use Rattle.rules.specs.declared.Named.TheVariants.{NoStep};
 ghost use Rattle.report.specs.Ahead.{ahead, Ends, Next};
 
 use lines::read_step;
-use rules::{Named, Step};
+use rules::Step;
 
 // The step of a line with 0; or 11, where it names none or is not ended, and a step that is not to be taken. `next` is where the next line begins.
 #[derive(Clone, Copy)]
@@ -36,7 +36,7 @@ fn no_step(next: usize) -> Ahead
     Ahead {
         refusal: 11,
         step: Step::Query { site: 0, id: 0 },
-        next: next,
+        next,
     }
 }
 
@@ -49,12 +49,12 @@ pub(crate) fn next_line(input: &[u8], start: usize) -> Ahead
     if end == input.len() {
         return no_step(end);
     }
-    let Named::Is(step) = read_step(&input[start..end]) else {
+    let Some(step) = read_step(&input[start..end]) else {
         return no_step(end + 1);
     };
     Ahead {
         refusal: 0,
-        step: step,
+        step,
         next: end + 1,
     }
 }

@@ -54,7 +54,7 @@ pub fn report(input: &[u8], out: &mut [u8]) -> Reported
     let written = say_report(input, out);
     Reported {
         refusal: 0,
-        written: written,
+        written,
     }
 }
 

@@ -42,7 +42,7 @@ pub(crate) fn say_report(input: &[u8], out: &mut [u8]) -> usize
     let mut words = [0u64; 48];
     let mut slots = [none; 8];
     let mut ledger = Ledger {
-        counts: counts,
+        counts,
         pairs: [begun; ENTRIES],
     };
     let mut n: u64 = 1;

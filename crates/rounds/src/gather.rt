@@ -66,21 +66,21 @@ pub(crate) fn gather(words: &[u64], run: Run, near: &mut [u64], far: &mut [u64])
     let mut site: u64 = 1;
     while site < run.sites {
         let at = Stand {
-            entries: entries,
+            entries,
             far: turned,
         };
         entries = join_in(words, run, site, at, near, far);
         turned = !turned;
         if places < entries {
             return Stand {
-                entries: entries,
+                entries,
                 far: turned,
             };
         }
         site += 1;
     }
     Stand {
-        entries: entries,
+        entries,
         far: turned,
     }
 }

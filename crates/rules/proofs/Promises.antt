@@ -1,19 +1,16 @@
 -- What the whole guarantees: the page to open first. Each theorem here is one sentence of the three demands or of a request, said of the very
 -- definitions that the contracts cite, and proved in the module that its last line names. Nothing else stands here.
 -- Assumes nothing.
-use Rattle.std.specs.Prelude.{ℕ, suc, ◌+◌, ◌*◌, ◌-◌, ◌/◌, ◌%◌, ◌^◌, ◌≤◌, ◌<◌, true, false, ◌&&◌, cond, ◌≡◌, List, [], ◌∷◌, ◌++◌, length, get_or, eqb, ltb, pos, nat_abs}
+use Rattle.std.specs.Prelude.{ℕ, suc, ◌+◌, ◌*◌, ◌-◌, ◌/◌, ◌%◌, ◌^◌, ◌≤◌, ◌<◌, true, false, ◌&&◌, cond, ◌≡◌, List, [], ◌∷◌, ◌++◌, length, get_or, eqb, ltb, pos, nat_abs, Option, Some}
 use Rattle.std.proofs.Math.Path.{refl}
 use Rattle.std.proofs.Common.{sym, ◌∙◌}
 use Rattle.rules.specs.declared.Run.{Run}
 use Rattle.rules.specs.declared.Answer.{Answer}
-use Rattle.rules.specs.declared.Reported.{Reported}
-use Rattle.rules.specs.declared.Grouped.{Grouped}
+use Rattle.rules.specs.meaning.Reports.{Reported}
+use Rattle.rules.specs.meaning.Groups.{Grouped}
 use Rattle.rules.specs.declared.Pair.{Pair}
 use Rattle.rules.specs.declared.Step.{Step}
 use Rattle.rules.specs.declared.Step.TheVariants.{Add, Remove, Query, Merge, Deliver}
-use Rattle.rules.specs.declared.Line.TheVariants.{Numbers}
-use Rattle.rules.specs.declared.Named.{Named}
-use Rattle.rules.specs.declared.Named.TheVariants.{Is}
 use Rattle.rules.specs.meaning.Lengths.{M, listed, after_add, after_remove, join}
 use Rattle.rules.specs.meaning.Table.{SoundTable, length_of, held, shown, count_below, rises}
 use Rattle.rules.specs.meaning.Operations.{accepted, answer, merge_refusal, merge_answer, merge_table}
@@ -33,7 +30,7 @@ use Rattle.rules.specs.meaning.Ids.{among, distinct, ids_of_all, fit_together}
 use Rattle.rules.specs.meaning.Histories.{ran, taking, accepted_of, pair_in, is_send_on, sent_on, serials_from, absorbed_in, absorbed, largest, same_pairs, offered_in, offered, length_in}
 use Rattle.rules.specs.meaning.Repairs.{TableOf, empty_table, are_sound, entries_of_all, taken_in, all_taken, Repair, are_proper, all_at, operations, all_accepted, named, came_to, fit_everywhere, same_everywhere, OneEnd}
 use Rattle.rules.specs.meaning.Padding.{unpadded, is_padded, has_short_numbers}
-use Rattle.rules.specs.meaning.Lines.{text_of, names_step, numbers_of}
+use Rattle.rules.specs.meaning.Lines.{text_of, names_step, numbers_of, four}
 use Rattle.rules.specs.meaning.StepLines.{line_of, step_of, Fits}
 use Rattle.rules.specs.meaning.Calls.{named_answer, Called}
 use Rattle.rules.specs.meaning.Bursts.{asks_of, steps_in, Handled}
@@ -133,16 +130,16 @@ pub shown_means_listed : (t : List ℕ) → SoundTable t → (b : ℕ) → ((x :
 shown_means_listed t s b none = (Counts.held_counts M t s b none, Counts.shown_counts M t s b none)
 
 -- "A step line written is read back as the same step": by the step, and by the four numbers
-pub written_is_read : (step : Step) → Fits step → step_of (line_of step) ≡ Is step
+pub written_is_read : (step : Step) → Fits step → step_of (line_of step) ≡ Some step
 written_is_read = StepLines.written_step
 
 pub written_is_read_as_numbers : (kind first second id : ℕ) → names_step kind second id ≡ true → first < 2 ^ 64 → second < 2 ^ 64 → id < 2 ^ 64
-    → numbers_of (text_of kind first second id) ≡ Numbers kind first second id
+    → numbers_of (text_of kind first second id) ≡ four kind first second id
 written_is_read_as_numbers = Lines.written_read
 
 -- request 5: "a line read and written again has the same step with no padding": what is written is the line without its padding, and is read as the step
-pub read_is_written_unpadded : (line : List ℕ) (step : Step) → step_of line ≡ Is step
-    → (line_of step ≡ unpadded line) × (step_of (unpadded line) ≡ Is step) × (is_padded (line_of step) ≡ false) × Fits step
+pub read_is_written_unpadded : (line : List ℕ) (step : Step) → step_of line ≡ Some step
+    → (line_of step ≡ unpadded line) × (step_of (unpadded line) ≡ Some step) × (is_padded (line_of step) ≡ false) × Fits step
 read_is_written_unpadded line step h =
     let r = StepLines.read_step line step h in
     let again = StepLines.read_again line step h in
@@ -151,22 +148,22 @@ read_is_written_unpadded line step h =
 -- "up to 20 digits with leading zeros, as long as the value fits 64 bits": a text is read as a step exactly where it is the line of that step but for
 -- padding, and no number of it has more than 20 digits
 pub padded_lines_are_read : (line : List ℕ) (step : Step)
-    → (step_of line ≡ Is step → (unpadded line ≡ line_of step) × (has_short_numbers line ≡ true) × Fits step)
-    × ((unpadded line ≡ line_of step) × (has_short_numbers line ≡ true) × Fits step → step_of line ≡ Is step)
+    → (step_of line ≡ Some step → (unpadded line ≡ line_of step) × (has_short_numbers line ≡ true) × Fits step)
+    × ((unpadded line ≡ line_of step) × (has_short_numbers line ≡ true) × Fits step → step_of line ≡ Some step)
 padded_lines_are_read line step = (
   (λ h. let r = StepLines.read_step line step h in (sym r.text, r.short, r.fits)),
   (λ h. StepLines.padded_step line step h.0 h.2 h.1),
 )
 
 -- "a line that is read is written back byte for byte", as document 01 has it, stays true of lines without padding
-pub read_is_written : (line : List ℕ) (step : Step) → is_padded line ≡ false → step_of line ≡ Is step → (line_of step ≡ line) × Fits step
+pub read_is_written : (line : List ℕ) (step : Step) → is_padded line ≡ false → step_of line ≡ Some step → (line_of step ≡ line) × Fits step
 read_is_written = StepLines.read_same
 
 -- two lines can be one step now, where they differ in padding alone; and no line is two steps
-pub one_step_two_lines : (a b : List ℕ) (s t : Step) → step_of a ≡ Is s → step_of b ≡ Is t → (s ≡ t → unpadded a ≡ unpadded b) × (unpadded a ≡ unpadded b → s ≡ t)
+pub one_step_two_lines : (a b : List ℕ) (s t : Step) → step_of a ≡ Some s → step_of b ≡ Some t → (s ≡ t → unpadded a ≡ unpadded b) × (unpadded a ≡ unpadded b → s ≡ t)
 one_step_two_lines = StepLines.one_step_two_lines
 
-pub no_line_of_two_steps : (line : List ℕ) (s t : Step) → step_of line ≡ Is s → step_of line ≡ Is t → s ≡ t
+pub no_line_of_two_steps : (line : List ℕ) (s t : Step) → step_of line ≡ Some s → step_of line ≡ Some t → s ≡ t
 no_line_of_two_steps line s t p q = (StepLines.one_step_two_lines line line s t p q).1 refl
 
 -- and no number that the report program prints has padding, whatever its input is
@@ -414,7 +411,7 @@ module _ (run : Run) (s : State) where
 module _ (run : Run) (s : State) (asks given : List ℕ) (left : State) (said : List ℕ) where
   pub burst_is_its_steps : Handled run s asks given 0 left said
       → (left ≡ ran run s (steps_in (asks_of asks)))
-      × ((before : List Named) (ask : Named) (rest : List Named) → asks_of asks ≡ before ++ (ask ∷ rest)
+      × ((before : List (Option Step)) (ask : Option Step) (rest : List (Option Step)) → asks_of asks ≡ before ++ (ask ∷ rest)
       → (get_or said (2 * length before) 0 ≡ (named_answer run (ran run s (steps_in before)) ask).refusal)
       × (get_or said (2 * length before + 1) 0 ≡ (named_answer run (ran run s (steps_in before)) ask).value))
   burst_is_its_steps = Bursts.one_by_one run s asks given left said

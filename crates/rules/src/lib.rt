@@ -35,11 +35,26 @@ pub const ENTRIES: usize = 256;
 // The number of no link: past the last entry nothing is read or set.
 pub const NO_LINK: usize = ENTRIES;
 
-// Where an id stands in a table: the place of its entry, or its absence.
+// Why a call is refused. C is given the number, and 0 where nothing is refused.
 #[derive(Clone, Copy)]
-pub enum Found {
-    At(usize),
-    Absent,
+pub enum Refusal {
+    BadSizes = 1,
+    Unsound = 2,
+    NoSite = 3,
+    SameSite = 4,
+    NoParcel = 5,
+    NothingToSend = 6,
+    LengthsOut = 7,
+    NoRoom = 8,
+    NoSlot = 9,
+    CountFull = 10,
+    NoStep = 11,
+    InputLong = 12,
+    ShortBuffer = 13,
+    ManyIds = 14,
+    NoOrder = 15,
+    NothingHeard = 16,
+    NoGroup = 17,
 }
 
 // What an operation answers: 0 or the number of its refusal, and its other result, which is 0 on a refusal.
@@ -58,7 +73,7 @@ pub struct Run {
 
 // One slot of the parcel list: an update under way to a site, with the site that sent it and its serial; or all 0 where the slot is free.
 #[repr(C)]
-#[derive(Clone, Copy)]
+#[derive(Clone, Copy, Default)]
 pub struct Parcel {
     pub site: u64,
     pub id: u64,
@@ -70,7 +85,7 @@ pub struct Parcel {
 // What is kept of the link from one site to another: the next serial to go out, the newest one heard, a mark for nothing sent and one for nothing
 // heard. A mark stands where it is not 0.
 #[repr(C)]
-#[derive(Clone, Copy)]
+#[derive(Clone, Copy, Default)]
 pub struct Pair {
     pub next: u32,
     pub heard: u32,
@@ -80,7 +95,7 @@ pub struct Pair {
 
 // The counts of updates: sent, copied, absorbed, lost. How many wait is not stored.
 #[repr(C)]
-#[derive(Clone, Copy)]
+#[derive(Clone, Copy, Default)]
 pub struct Counts {
     pub sent: u64,
     pub copied: u64,
@@ -144,37 +159,11 @@ pub enum Step {
     Lose { slot: u64 },
 }
 
-// A piece of a step line: its number, 0 for a piece of fixed text, and the place behind it; or that it does not stand there.
+// The four numbers of a step, as its line has them: its kind, its first site or slot, its second site and its id; unused ones 0.
 #[derive(Clone, Copy)]
-pub enum Piece {
-    Read(u64, usize),
-    Refused,
-}
-
-// What a text says: the four numbers of a step (kind, first site or slot, second site, id; unused ones 0), or that it is not a step line.
-#[derive(Clone, Copy)]
-pub enum Line {
-    Numbers(u64, u64, u64, u64),
-    NoLine,
-}
-
-// What four numbers or a text name: a step, or none.
-#[derive(Clone, Copy)]
-pub enum Named {
-    Is(Step),
-    NoStep,
-}
-
-// What the report answers: 0 or the number of its refusal, and how many bytes it wrote, 0 on a refusal.
-#[derive(Clone, Copy)]
-pub struct Reported {
-    pub refusal: u32,
-    pub written: usize,
-}
-
-// What the writer and the reader of groups answer: 0 or the number of the refusal, and how many bytes or entries were written, 0 on a refusal.
-#[derive(Clone, Copy)]
-pub struct Grouped {
-    pub refusal: u32,
-    pub count: usize,
+pub struct Numbers {
+    pub kind: u64,
+    pub first: u64,
+    pub second: u64,
+    pub id: u64,
 }

@@ -40,8 +40,5 @@ pub(crate) fn lag_seen(
         return no_lag(own);
     }
     let lag = lag_of(books.pair);
-    Lag {
-        refusal: 0,
-        lag: lag,
-    }
+    Lag { refusal: 0, lag }
 }

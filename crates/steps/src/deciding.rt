@@ -26,13 +26,13 @@ pub fn decide(
     let scan = Scan {
         sound: true,
         waiting: 0,
-        free: free,
+        free,
     };
     let seen = Sight {
-        scan: scan,
+        scan,
         named: held,
         count: slots,
-        books: books,
+        books,
     };
     if refused != 0 {
         return refuse(refused, seen);

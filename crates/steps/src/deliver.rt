@@ -22,8 +22,8 @@ fn settle(answer: Answer, seen: Sight, slot: u64, link: usize, pair: Pair) -> Ve
             counter: 3,
             at: slot as usize,
             parcel: none,
-            link: link,
-            pair: pair,
+            link,
+            pair,
         };
     }
     refuse(answer.refusal, seen)

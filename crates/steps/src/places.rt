@@ -19,7 +19,7 @@ pub fn part_of(run: Run, site: u64) -> Part
     let width = 2 * run.capacity as usize;
     let from = site as usize * width;
     Part {
-        from: from,
+        from,
         to: from + width,
     }
 }

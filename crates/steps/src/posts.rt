@@ -8,7 +8,7 @@ use crate::places::part_of;
 use crate::verdict::{Verdict, no_pair, refuse};
 use links::sent_pair;
 use parcels::{is_occupied, no_parcel};
-use rules::{Found, M, NO_LINK, Pair, Parcel, Run, Sight};
+use rules::{M, NO_LINK, Pair, Parcel, Run, Sight};
 
 // A new parcel takes the free slot with the lowest number, unless there is none or its counter is at the largest. The entry of its link is set with it, so
 // that a refused send uses no serial.
@@ -26,11 +26,11 @@ fn post(seen: Sight, parcel: Parcel, counter: u64, counted: u64, link: usize, pa
     Verdict {
         refusal: 0,
         value: free as u64,
-        counter: counter,
+        counter,
         at: free,
-        parcel: parcel,
-        link: link,
-        pair: pair,
+        parcel,
+        link,
+        pair,
     }
 }
 
@@ -52,14 +52,14 @@ pub(crate) fn on_send(words: &[u64], run: Run, seen: Sight, from: u64, to: u64, 
     let a = part.from;
     let e = part.to;
     let own = &words[a..e];
-    let Found::At(i) = table::lookup(own, id) else {
+    let Some(i) = table::lookup(own, id) else {
         return refuse(6, seen);
     };
     let books = seen.books;
     let pair = books.pair;
     let parcel = Parcel {
         site: to,
-        id: id,
+        id,
         length: own[2 * i + 1],
         sender: from as u32,
         serial: pair.next,
@@ -112,7 +112,7 @@ pub(crate) fn on_lose(run: Run, seen: Sight, slot: u64) -> Verdict
             at: slot as usize,
             parcel: none,
             link: NO_LINK,
-            pair: pair,
+            pair,
         };
     }
     refuse(5, seen)

@@ -46,7 +46,7 @@ pub(crate) fn refuse(number: u32, seen: Sight) -> Verdict
         at: seen.count,
         parcel: none,
         link: NO_LINK,
-        pair: pair,
+        pair,
     }
 }
 
@@ -63,6 +63,6 @@ pub(crate) fn hand_on(answer: Answer, seen: Sight) -> Verdict
         at: seen.count,
         parcel: none,
         link: NO_LINK,
-        pair: pair,
+        pair,
     }
 }

@@ -10,8 +10,8 @@ use mathlib.Core.Logic.{◌⊎◌, inl, inr}
 use lib.ListN.{length, get_or, set}
 use lib.Dec.{leb, ltb}
 use borrow.Author.Tests.{lt-ltb, le-ltb, le-leb, lt-leb}
+use Rattle.std.specs.Prelude.{Some, None}
 use Rattle.rules.specs.declared.Answer.{Answer}
-use Rattle.rules.specs.declared.Found.TheVariants.{At, Absent}
 use Rattle.rules.specs.meaning.Lengths.{M, after_remove}
 use Rattle.rules.proofs.laws.Lengths.{remove_none, remove_rises}
 use Rattle.rules.specs.meaning.Table.{SoundTable, capacity, length_at, length_of, held, found_of, raised, held_with}
@@ -23,7 +23,7 @@ use Rattle.rules.proofs.laws.table.Insert.{raised_set}
 use Rattle.rules.proofs.laws.table.Operations.{raise_refused, raise_accepted}
 
 -- ---- the id stands at place i
-module _ (t : List ℕ) (e i : ℕ) (ok : SoundTable t) (found : found_of t e ≡ At i) where
+module _ (t : List ℕ) (e i : ℕ) (ok : SoundTable t) (found : found_of t e ≡ Some i) where
   facts : (i < held t) × (get_or t (2 * i) 0 ≡ e) × (length_of t e ≡ length_at t i)
   facts = at_found (laid_of M t ok) e i found
 
@@ -62,7 +62,7 @@ remove_kept t e a q h = go (length_refusal M (after_remove (length_of t e))) ref
     go (suc r) p = rw p
 
 -- ---- the id stands nowhere
-module _ (t : List ℕ) (e : ℕ) (ok : SoundTable t) (found : found_of t e ≡ Absent) where
+module _ (t : List ℕ) (e : ℕ) (ok : SoundTable t) (found : found_of t e ≡ None) where
   pub none : length_of t e ≡ 0
   none = none_found (laid_of M t ok) e found
 

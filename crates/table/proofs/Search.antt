@@ -11,7 +11,7 @@ use lib.ListN.{length}
 use lib.Dec.{leb, ltb, eqb}
 use mir.Val.{bool_byte}
 use borrow.Author.Tests.{ne_eqb, leb-true, leb-false, ltb-true, ltb-false, eqb-true, eqb-false, not-true}
-use Rattle.rules.specs.declared.Found.TheVariants.{At, Absent}
+use Rattle.std.specs.Prelude.{Some, None}
 use Rattle.rules.proofs.laws.table.Order.{Side, Side.below, Side.same, Side.above, side}
 use Rattle.rules.specs.meaning.Table.{id_at, length_at, rank, found_of}
 use Rattle.rules.proofs.laws.table.Places.{Laid, rank_is, used_at, found_at, found_none}
@@ -61,12 +61,12 @@ module _ {most : ℕ} {t : List ℕ} {k : ℕ} (w : Laid most t k) (x : ℕ) whe
 
   -- at its end halving has one place left
   module _ (base : ℕ) (s : Span t k x base 1) where
-    pub span_found : not (eqb (length_at t base) 0) && eqb (id_at t base) x ≡ true → At base ≡ found_of t x
+    pub span_found : not (eqb (length_at t base) 0) && eqb (id_at t base) x ≡ true → Some base ≡ found_of t x
     span_found h =
         let p = parts _ _ h in
         sym (found_at w x base (used_at w base (eqb-false _ _ (not-true _ p.0))) (eqb-true _ _ p.1))
 
-    pub span_none : not (eqb (length_at t base) 0) && eqb (id_at t base) x ≡ false → Absent ≡ found_of t x
+    pub span_none : not (eqb (length_at t base) 0) && eqb (id_at t base) x ≡ false → None ≡ found_of t x
     span_none h = sym (found_none w x (λ i. at i (side i base)))
       where
         at : (i : ℕ) → Side i base → i < k → id_at t i ≡ x → ⊥

@@ -3,8 +3,6 @@ ghost use Rattle.std.specs.Prelude.{◌≡◌, not, ◌&&◌, ◌+◌, ◌*◌, 
 ghost use Rattle.rules.specs.meaning.Table.{SoundTable, held, rank, found_of, length_of, id_at, length_at};
 ghost use Rattle.table.specs.Loops.{Span};
 
-use rules::Found;
-
 // The exponent of a power of two that is within the number and at least half of it.
 fn halvings(n: usize) -> usize
     requires { 1 ≤ n }
@@ -51,18 +49,18 @@ fn nearest(table: &[u64], id: u64) -> usize
 }
 
 // The place where the id stands, or its absence.
-pub fn lookup(table: &[u64], id: u64) -> Found
+pub fn lookup(table: &[u64], id: u64) -> Option<usize>
     requires { SoundTable table.now }
     ensures { result ≡ found_of table.now id }
 {
     if table.len() < 2 {
-        return Found::Absent;
+        return None;
     }
     let near = nearest(table, id);
     if (table[2 * near + 1] != 0) & (table[2 * near] == id) {
-        Found::At(near)
+        Some(near)
     } else {
-        Found::Absent
+        None
     }
 }
 
@@ -82,7 +80,7 @@ pub fn query(table: &[u64], id: u64) -> u64
     requires { SoundTable table.now }
     ensures { result ≡ length_of table.now id }
 {
-    let Found::At(i) = lookup(table, id) else {
+    let Some(i) = lookup(table, id) else {
         return 0;
     };
     table[2 * i + 1]

@@ -8,7 +8,7 @@ use crate::find::{lookup, rank};
 use crate::judge::held;
 use crate::places::{move_on, write};
 use lengths::{after_add, after_remove, join};
-use rules::{Answer, Found};
+use rules::Answer;
 
 // An id without an entry is given one: the entries with larger ids move on by one place.
 fn insert(table: &mut [u64], used: usize, id: u64, length: u64)
@@ -51,7 +51,7 @@ pub fn add(table: &mut [u64], id: u64) -> Answer
     ensures value { result ≡ add_answer table.old id }
     ensures table_after { table.new ≡ add_table table.old id }
 {
-    if let Found::At(i) = lookup(table, id) {
+    if let Some(i) = lookup(table, id) {
         let after = after_add(table[2 * i + 1]);
         table[2 * i + 1] = after;
         return Answer {
@@ -68,7 +68,7 @@ pub fn remove(table: &mut [u64], id: u64) -> Answer
     ensures value { result ≡ remove_answer M table.old id }
     ensures table_after { table.new ≡ remove_table M table.old id }
 {
-    let Found::At(i) = lookup(table, id) else {
+    let Some(i) = lookup(table, id) else {
         return Answer {
             refusal: 0,
             value: 0,
@@ -87,7 +87,7 @@ pub fn absorb(table: &mut [u64], id: u64, length: u64) -> Answer
     ensures value { result ≡ absorb_answer table.old id length }
     ensures table_after { table.new ≡ absorb_table table.old id length }
 {
-    if let Found::At(i) = lookup(table, id) {
+    if let Some(i) = lookup(table, id) {
         let after = join(table[2 * i + 1], length);
         table[2 * i + 1] = after;
         return Answer {
@@ -109,7 +109,7 @@ pub fn lacks_room(table: &[u64], id: u64, length: u64) -> bool
     requires { SoundTable table.now }
     ensures { result ≡ crowded table.now (held_with table.now id (join (length_of table.now id) length)) }
 {
-    if let Found::At(i) = lookup(table, id) {
+    if let Some(i) = lookup(table, id) {
         return false;
     }
     if length == 0 {

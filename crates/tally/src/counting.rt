@@ -46,7 +46,7 @@ fn turn(table: &[u64], used: usize, entries: &[u64], at: At) -> At
         if mine < id {
             return At {
                 own: own + 1,
-                others: others,
+                others,
                 held: at.held,
                 rises: at.rises,
                 abreast: false,
@@ -64,7 +64,7 @@ fn turn(table: &[u64], used: usize, entries: &[u64], at: At) -> At
         }
     }
     At {
-        own: own,
+        own,
         others: others + 1,
         held: at.held + 1,
         rises: at.rises + 1,
@@ -132,11 +132,11 @@ fn eight(table: &[u64], entries: &[u64], at: At) -> At
     }
     let fresh = 8 - (own - start);
     At {
-        own: own,
-        others: others,
+        own,
+        others,
         held: at.held + fresh,
         rises: risen + fresh as u64,
-        abreast: abreast,
+        abreast,
     }
 }
 
@@ -155,11 +155,11 @@ fn walk(table: &[u64], used: usize, entries: &[u64], all: usize) -> At
     let mut abreast = true;
     while others < all {
         let at = At {
-            own: own,
-            others: others,
+            own,
+            others,
             held: total,
             rises: risen,
-            abreast: abreast,
+            abreast,
         };
         let next = onward(table, used, entries, all, at);
         own = next.own;
@@ -169,11 +169,11 @@ fn walk(table: &[u64], used: usize, entries: &[u64], all: usize) -> At
         abreast = next.abreast;
     }
     At {
-        own: own,
-        others: others,
+        own,
+        others,
         held: total,
         rises: risen,
-        abreast: abreast,
+        abreast,
     }
 }
 

@@ -16,7 +16,7 @@ ghost use Rattle.rules.specs.meaning.Runs.{Freshened};
 ghost use Rattle.rules.specs.meaning.Writing.{check_of, Filled};
 
 use lines::step_for;
-use rules::{Ledger, Named, Parcel, Run};
+use rules::{Ledger, Parcel, Run};
 
 // A fresh run of these sizes: "every word, slot and counter 0", and each link at the first serial.
 #[unsafe(no_mangle)]
@@ -30,10 +30,7 @@ pub extern "C" fn wg_fresh(
 ) -> u32
     ensures { Freshened (record { sites = sites; capacity = capacity }) first (lent words.old slots.old ledger.old) result (lent words.new slots.new ledger.new) }
 {
-    let run = Run {
-        sites: sites,
-        capacity: capacity,
-    };
+    let run = Run { sites, capacity };
     sites::fresh(words, slots, ledger, run, first)
 }
 
@@ -53,14 +50,11 @@ pub extern "C" fn wg_step(
 ) -> u32
     ensures { Called (record { sites = sites; capacity = capacity }) (lent words.old slots.old ledger.old) kind first second id result value.new (lent words.new slots.new ledger.new) }
 {
-    let Named::Is(step) = step_for(kind, first, second, id) else {
+    let Some(step) = step_for(kind, first, second, id) else {
         *value = 0;
         return 11;
     };
-    let run = Run {
-        sites: sites,
-        capacity: capacity,
-    };
+    let run = Run { sites, capacity };
     let answer = sites::step(words, slots, ledger, run, step);
     *value = answer.value;
     answer.refusal
@@ -80,10 +74,7 @@ pub extern "C" fn wg_lag(
 ) -> u32
     ensures { (result ≡ (lag_answer (record { sites = sites; capacity = capacity }) (lent words.now slots.now ledger.now) from to).refusal) × (lag.new ≡ (lag_answer (record { sites = sites; capacity = capacity }) (lent words.now slots.now ledger.now) from to).lag) }
 {
-    let run = Run {
-        sites: sites,
-        capacity: capacity,
-    };
+    let run = Run { sites, capacity };
     let answer = sites::lag(words, slots, ledger, run, from, to);
     *lag = answer.lag;
     answer.refusal
@@ -102,10 +93,7 @@ pub extern "C" fn wg_burst(
 ) -> u32
     ensures { Handled (record { sites = sites; capacity = capacity }) (lent words.old slots.old ledger.old) asks.now answers.old result (lent words.new slots.new ledger.new) answers.new }
 {
-    let run = Run {
-        sites: sites,
-        capacity: capacity,
-    };
+    let run = Run { sites, capacity };
     bursts::burst(words, slots, ledger, run, asks, answers)
 }
 
@@ -123,10 +111,7 @@ pub extern "C" fn wg_absorb(
 ) -> u32
     ensures { Happened (record { sites = sites; capacity = capacity }) (lent words.old slots.now ledger.now) (absorbs site bytes.now) (record { refusal = result; value = rose.new }) (lent words.new slots.now ledger.now) }
 {
-    let run = Run {
-        sites: sites,
-        capacity: capacity,
-    };
+    let run = Run { sites, capacity };
     let answer = intake::absorb(words, slots, ledger, run, site, bytes);
     *rose = answer.value;
     answer.refusal
@@ -144,10 +129,7 @@ pub extern "C" fn wg_repair(
 ) -> u32
     ensures { Happened (record { sites = sites; capacity = capacity }) (lent words.old slots.now ledger.now) round (record { refusal = result; value = merges.new }) (lent words.new slots.now ledger.now) }
 {
-    let run = Run {
-        sites: sites,
-        capacity: capacity,
-    };
+    let run = Run { sites, capacity };
     let answer = rounds::repair(words, slots, ledger, run);
     *merges = answer.value;
     answer.refusal

@@ -1,5 +1,6 @@
 -- Worked cases, as one table under one statement, and the lines as the document lists them. Assumes nothing.
-use Rattle.std.specs.Prelude.{◌≡◌, refl, Bool, true, false, not, ◌&&◌, List, [], ◌∷◌, ℕ, eqb, replicate}
+use Rattle.std.specs.Prelude.{◌≡◌, refl, Bool, true, false, not, ◌&&◌, List, [], ◌∷◌, ℕ, eqb, replicate, Option, Some, None}
+use Rattle.rules.specs.declared.Numbers.{Numbers}
 use Prim.Native.String.{String}
 use Rattle.rules.specs.meaning.Text.{ascii, behind}
 use Rattle.rules.specs.meaning.Number.{up_to, digits, digit_of, starts_digit, digit_run, fair, judged, read_number}
@@ -10,12 +11,10 @@ use Rattle.rules.specs.meaning.Put.{put}
 use Rattle.rules.specs.meaning.Writing.{check_of}
 use Rattle.rules.specs.meaning.Area.{little, laid, is_no_line, read_refusal, area_after}
 use Rattle.rules.proofs.cases.Marked.{all, same}
-use Rattle.rules.specs.declared.Line.{Line}
-use Rattle.rules.specs.declared.Line.TheVariants.{Numbers, NoLine}
 
-gives : Line → ℕ → ℕ → ℕ → ℕ → Bool
-gives (Numbers k a b i) k' a' b' i' = eqb k k' && eqb a a' && eqb b b' && eqb i i'
-gives NoLine k' a' b' i' = false
+gives : Option Numbers → ℕ → ℕ → ℕ → ℕ → Bool
+gives (Some n) k' a' b' i' = eqb n.kind k' && eqb n.first a' && eqb n.second b' && eqb n.id i'
+gives None k' a' b' i' = false
 
 -- the text is the line of the four numbers, both ways
 both : String → ℕ → ℕ → ℕ → ℕ → Bool
@@ -29,9 +28,9 @@ padded s k a b i = is_padded (ascii s) && has_short_numbers (ascii s) && gives (
 drops : String → String → Bool
 drops s t = same (unpadded (ascii s)) (ascii t)
 
-is_refused : Line → Bool
-is_refused (Numbers k a b i) = false
-is_refused NoLine = true
+is_refused : Option Numbers → Bool
+is_refused (Some n) = false
+is_refused None = true
 
 no_line : String → Bool
 no_line s = is_refused (numbers_of (ascii s))

@@ -1,9 +1,7 @@
 -- The marked examples of document 01, one table of cases under one statement, which the checker computes from the definitions as they
 -- stand; and, below them, what a table is and is not. A reader can add a row and see.
 -- Assumes nothing.
-use Rattle.std.specs.Prelude.{ℕ, Bool, true, false, ◌&&◌, not, ◌≡◌, refl, List, [], ◌∷◌, ◌++◌, replicate, eqb, ltb}
-use Rattle.rules.specs.declared.Found.{Found}
-use Rattle.rules.specs.declared.Found.TheVariants.{At, Absent}
+use Rattle.std.specs.Prelude.{ℕ, Bool, true, false, ◌&&◌, not, ◌≡◌, refl, List, [], ◌∷◌, ◌++◌, replicate, eqb, ltb, Option, Some, None}
 use Rattle.rules.specs.declared.Answer.{Answer}
 use Rattle.rules.specs.meaning.Lengths.{M, listed, after_add, after_remove, join}
 use Rattle.rules.specs.meaning.Table.{unused, sound_from, sound, length_of, held, shown, count_below, rank, found_of, push, with_length, raised, held_with, merged, new_ids, rises}
@@ -48,9 +46,9 @@ gives a v = eqb a.refusal 0 && eqb a.value v
 abbrev pub refuses : Answer → ℕ → Bool
 refuses a r = eqb a.refusal r && eqb a.value 0
 
-abbrev pub is_at : Found → ℕ → Bool
-is_at (At j) i = eqb j i
-is_at Absent i = false
+abbrev pub is_at : Option ℕ → ℕ → Bool
+is_at (Some j) i = eqb j i
+is_at None i = false
 
 -- a list of steps, as what happens in a run
 abbrev pub taken : List Step → List Event

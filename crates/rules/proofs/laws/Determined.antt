@@ -1,13 +1,16 @@
 -- "Prove that two results which both satisfy it are equal". A contract here is an equation for the result and one for each thing lent, or a record of
 -- such equations: for each of those records, the result and the final contents that it leaves.
 -- Assumes nothing.
-use Rattle.std.specs.Prelude.{ℕ, ◌≡◌, List}
-use Rattle.std.proofs.Common.{sym, ap, ◌∙◌}
+use Rattle.std.specs.Prelude.{ℕ, ◌≡◌, List, [], ◌∷◌, get_or, Result, Ok, Err}
+use Rattle.std.proofs.Common.{sym, ap, ◌∙◌, refl, arith}
+use Rattle.rules.specs.declared.Refusal.{Refusal}
+use Rattle.rules.specs.declared.Refusal.TheVariants.{BadSizes, Unsound, NoSite, SameSite, NoParcel, NothingToSend, LengthsOut, NoRoom, NoSlot, CountFull, NoStep, InputLong, ShortBuffer, ManyIds, NoOrder, NothingHeard, NoGroup}
+use Rattle.rules.specs.meaning.Refusals.{number_of, number_in, value_in}
 use Rattle.rules.specs.declared.Answer.{Answer}
 use Rattle.rules.specs.declared.Run.{Run}
 use Rattle.rules.specs.declared.Step.{Step}
-use Rattle.rules.specs.declared.Reported.{Reported}
-use Rattle.rules.specs.declared.Grouped.{Grouped}
+use Rattle.rules.specs.meaning.Reports.{Reported}
+use Rattle.rules.specs.meaning.Groups.{Grouped}
 use Rattle.rules.specs.meaning.States.{State}
 use Rattle.rules.specs.meaning.Runs.{Stepped, Freshened}
 use Rattle.rules.specs.meaning.Calls.{Called}
@@ -89,3 +92,56 @@ written_determined es before {r} {r'} a b =
 pub entered_determined : (bs before : List ℕ) {r r' : Grouped} {now now' : List ℕ} → Entered bs before r now → Entered bs before r' now' → (r ≡ r') × (now ≡ now')
 entered_determined bs before {r} {r'} a b =
     (same_grouped r r' (one_result a.refusal b.refusal) (one_result a.count b.count), one_result a.words b.words)
+
+-- ---- a call's answer, a value or an error, is determined by what its contract says of it: its number and its value
+-- the refusal of a number, to come back from it
+named : ℕ → Refusal
+named n = get_or (BadSizes ∷ BadSizes ∷ Unsound ∷ NoSite ∷ SameSite ∷ NoParcel ∷ NothingToSend ∷ LengthsOut ∷ NoRoom ∷ NoSlot ∷ CountFull ∷ NoStep ∷ InputLong ∷ ShortBuffer ∷ ManyIds ∷ NoOrder ∷ NothingHeard ∷ NoGroup ∷ []) n NoGroup
+
+named_back : (r : Refusal) → named (number_of r) ≡ r
+unfolding named
+named_back BadSizes = refl
+named_back Unsound = refl
+named_back NoSite = refl
+named_back SameSite = refl
+named_back NoParcel = refl
+named_back NothingToSend = refl
+named_back LengthsOut = refl
+named_back NoRoom = refl
+named_back NoSlot = refl
+named_back CountFull = refl
+named_back NoStep = refl
+named_back InputLong = refl
+named_back ShortBuffer = refl
+named_back ManyIds = refl
+named_back NoOrder = refl
+named_back NothingHeard = refl
+named_back NoGroup = refl
+
+above : (r : Refusal) → 0 ≡ number_of r → ⊥
+above BadSizes e = omega arith
+above Unsound e = omega arith
+above NoSite e = omega arith
+above SameSite e = omega arith
+above NoParcel e = omega arith
+above NothingToSend e = omega arith
+above LengthsOut e = omega arith
+above NoRoom e = omega arith
+above NoSlot e = omega arith
+above CountFull e = omega arith
+above NoStep e = omega arith
+above InputLong e = omega arith
+above ShortBuffer e = omega arith
+above ManyIds e = omega arith
+above NoOrder e = omega arith
+above NothingHeard e = omega arith
+above NoGroup e = omega arith
+
+pub numbers_apart : (r s : Refusal) → number_of r ≡ number_of s → r ≡ s
+numbers_apart r s e = sym (named_back r) ∙ ap named e ∙ named_back s
+
+pub answer_determined : {A : Type 0} (none : A) (r r' : Result A Refusal) → number_in r ≡ number_in r' → value_in none r ≡ value_in none r' → r ≡ r'
+answer_determined none (Ok x) (Ok y) p q = ap Ok q
+answer_determined none (Ok x) (Err s) p q = absurd (above s p)
+answer_determined none (Err r) (Ok y) p q = absurd (above r (sym p))
+answer_determined none (Err r) (Err s) p q = ap Err (numbers_apart r s p)

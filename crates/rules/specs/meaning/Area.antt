@@ -1,8 +1,7 @@
 -- The four numbers of a line as the reader lays them into an area: "four little-endian 64-bit numbers in the first 32 bytes".
 -- Assumes nothing.
-use Rattle.std.specs.Prelude.{Bool, true, false, List, [], ◌∷◌, ◌++◌, ℕ, zero, suc, ◌/◌, ◌%◌, ltb, length}
-use Rattle.rules.specs.declared.Line.{Line}
-use Rattle.rules.specs.declared.Line.TheVariants.{Numbers, NoLine}
+use Rattle.std.specs.Prelude.{Bool, true, false, List, [], ◌∷◌, ◌++◌, ℕ, zero, suc, ◌/◌, ◌%◌, ltb, length, Option, Some, None}
+use Rattle.rules.specs.declared.Numbers.{Numbers}
 use Rattle.rules.specs.meaning.Operations.{unless_refused}
 use Rattle.rules.specs.meaning.Lines.{numbers_of}
 use Rattle.rules.specs.meaning.Put.{put}
@@ -17,13 +16,13 @@ abbrev pub word : ℕ → List ℕ
 word n = little 8 n
 
 -- the 32 bytes of what a line says
-unfoldable pub laid : Line → List ℕ
-laid (Numbers kind first second i) = word kind ++ (word first ++ (word second ++ word i))
-laid NoLine = []
+unfoldable pub laid : Option Numbers → List ℕ
+laid (Some n) = word n.kind ++ (word n.first ++ (word n.second ++ word n.id))
+laid None = []
 
-unfoldable pub is_no_line : Line → Bool
-is_no_line (Numbers kind first second i) = false
-is_no_line NoLine = true
+unfoldable pub is_no_line : Option Numbers → Bool
+is_no_line (Some n) = false
+is_no_line None = true
 
 -- "An area under 32 bytes gives 13, then 11 is tried"
 unfoldable pub read_refusal : List ℕ → List ℕ → ℕ

@@ -1,10 +1,9 @@
 -- A burst: many steps of one run in one call, the state judged once. A step is asked for by its four numbers and answered by two, its refusal and
 -- its other result. What the numbers ask for, what is answered, when the call is refused, and what is left.
 -- Assumes nothing.
-use Rattle.std.specs.Prelude.{ℕ, ◌*◌, ◌/◌, ◌%◌, ◌≡◌, not, List, [], ◌∷◌, ◌++◌, length, ltb, eqb}
+use Rattle.std.specs.Prelude.{ℕ, ◌*◌, ◌/◌, ◌%◌, ◌≡◌, not, List, [], ◌∷◌, ◌++◌, length, ltb, eqb, Option, Some, None}
+use Rattle.rules.specs.declared.Step.{Step}
 use Rattle.rules.specs.declared.Run.{Run}
-use Rattle.rules.specs.declared.Named.{Named}
-use Rattle.rules.specs.declared.Named.TheVariants.{Is, NoStep}
 use Rattle.rules.specs.meaning.Operations.{unless_refused}
 use Rattle.rules.specs.meaning.Parcels.{no_parcel}
 use Rattle.rules.specs.meaning.Links.{no_link}
@@ -18,7 +17,7 @@ use Rattle.rules.specs.meaning.StepLines.{step_for}
 use Rattle.rules.specs.meaning.Calls.{named_answer, named_after}
 
 -- what the numbers ask for, four to each: a step, or no step
-unfoldable pub asks_of : List ℕ → List Named
+unfoldable pub asks_of : List ℕ → List (Option Step)
 asks_of [] = []
 asks_of (a ∷ []) = []
 asks_of (a ∷ b ∷ []) = []
@@ -26,13 +25,13 @@ asks_of (a ∷ b ∷ c ∷ []) = []
 asks_of (kind ∷ first ∷ second ∷ id ∷ rest) = step_for kind first second id ∷ asks_of rest
 
 -- the steps among them
-unfoldable pub steps_in : List Named → List Event
+unfoldable pub steps_in : List (Option Step) → List Event
 steps_in [] = []
-steps_in (Is step ∷ asks) = takes step ∷ steps_in asks
-steps_in (NoStep ∷ asks) = steps_in asks
+steps_in (Some step ∷ asks) = takes step ∷ steps_in asks
+steps_in (None ∷ asks) = steps_in asks
 
 -- what each is answered in the state after those before it: 11 where the numbers name no step
-unfoldable pub answers_to : Run → State → List Named → List ℕ
+unfoldable pub answers_to : Run → State → List (Option Step) → List ℕ
 answers_to run s [] = []
 answers_to run s (ask ∷ asks) = (named_answer run s ask).refusal ∷ (named_answer run s ask).value ∷ answers_to run (named_after run s ask) asks
 

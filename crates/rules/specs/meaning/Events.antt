@@ -1,13 +1,11 @@
 -- What can happen in a run: one of its eight steps, or an operation that is no step and has no line. For each one record: its refusal, what it returns, the
 -- state that it leaves, what it gives to which site, and what it offers.
 -- Assumes nothing.
-use Rattle.std.specs.Prelude.{ℕ, ◌≡◌, Bool, true, List, [], ◌∷◌, ◌++◌, length, eqb}
+use Rattle.std.specs.Prelude.{ℕ, ◌≡◌, Bool, true, List, [], ◌∷◌, ◌++◌, length, eqb, Option, Some, None}
 use Rattle.rules.specs.declared.Answer.{Answer}
 use Rattle.rules.specs.declared.Run.{Run}
 use Rattle.rules.specs.declared.Step.{Step}
 use Rattle.rules.specs.declared.Sight.{Sight}
-use Rattle.rules.specs.declared.Named.{Named}
-use Rattle.rules.specs.declared.Named.TheVariants.{Is, NoStep}
 use Rattle.rules.specs.meaning.Table.{held_merged, rises}
 use Rattle.rules.specs.meaning.Operations.{crowded, merge_table, answer}
 use Rattle.rules.specs.meaning.Parcels.{no_parcel}
@@ -28,10 +26,10 @@ pub data Event : Type 0 where
   round : Event
 
 -- the step that it is, if it is one
-abbrev pub step_in : Event → Named
-step_in (takes step) = Is step
-step_in (absorbs k bytes) = NoStep
-step_in round = NoStep
+abbrev pub step_in : Event → Option Step
+step_in (takes step) = Some step
+step_in (absorbs k bytes) = None
+step_in round = None
 
 -- ---- absorbing a group's bytes at a site
 module _ (run : Run) (ws : List ℕ) (k : ℕ) (bytes : List ℕ) where

@@ -1,11 +1,11 @@
 -- Groups: up to 64 entries as one string of bytes. "Bytes: the count; then for each entry the id (first entry) or the gap from the previous id less 1 (later
 -- entries), then the length less 1. All are unsigned LEB128 .., but only in the shortest form." Entries are words, id then length, as in a table.
 -- Assumes nothing.
-use Rattle.std.specs.Prelude.{◌≡◌, Bool, true, false, ◌&&◌, not, cond, List, [], ◌∷◌, ◌++◌, ℕ, zero, suc, ◌+◌, ◌-◌, ◌*◌, ◌/◌, ◌^◌, leb, ltb, eqb, length}
-use Rattle.rules.specs.declared.Grouped.{Grouped}
+use Rattle.std.specs.Prelude.{◌≡◌, Bool, true, false, ◌&&◌, not, cond, List, [], ◌∷◌, ◌++◌, ℕ, zero, suc, ◌+◌, ◌-◌, ◌*◌, ◌/◌, ◌^◌, leb, ltb, eqb, length, Result}
+use Rattle.rules.specs.declared.Refusal.{Refusal}
 use Rattle.rules.specs.meaning.Lengths.{M}
 use Rattle.rules.specs.meaning.Put.{put}
-use Rattle.rules.specs.meaning.Refusals.{◌when◌, first_given}
+use Rattle.rules.specs.meaning.Refusals.{◌when◌, first_given, number_in, value_in}
 use Rattle.rules.specs.meaning.Text.{Front, front, refused}
 use Rattle.rules.specs.meaning.Leb.{leb128, read_leb}
 
@@ -94,6 +94,14 @@ bytes_written es room = cond (eqb (write_refusal es room) 0) (group_bytes es) []
 
 unfoldable pub entries_read : List ℕ → ℕ → List ℕ
 entries_read bs room = cond (eqb (read_refusal bs room) 0) (entries_in bs) []
+
+-- what the writer and the reader answer: 0 or the number of the refusal, and how many bytes or entries were written, 0 on a refusal
+pub record Grouped : Type 0 where
+  pub refusal : ℕ
+  pub count : ℕ
+
+abbrev pub as_grouped : Result ℕ Refusal → Grouped
+as_grouped r = record { refusal = number_in r; count = value_in 0 r }
 
 -- the contract of the writer: the refusal, how many bytes it wrote, and every byte of the buffer
 pub record Written (es before : List ℕ) (r : Grouped) (after : List ℕ) : Type 0 where

@@ -1,11 +1,9 @@
 -- What a list of events makes of a run, and what its sites take in on the way: the words of demands 2 and 3.
 -- Assumes nothing.
-use Rattle.std.specs.Prelude.{ℕ, zero, suc, ◌+◌, Bool, true, false, ◌&&◌, ◌||◌, cond, List, [], ◌∷◌, ◌++◌, eqb}
+use Rattle.std.specs.Prelude.{ℕ, zero, suc, ◌+◌, Bool, true, false, ◌&&◌, ◌||◌, cond, List, [], ◌∷◌, ◌++◌, eqb, Option, Some, None}
 use Rattle.rules.specs.declared.Run.{Run}
 use Rattle.rules.specs.declared.Pair.{Pair}
 use Rattle.rules.specs.declared.Step.{Step}
-use Rattle.rules.specs.declared.Named.{Named}
-use Rattle.rules.specs.declared.Named.TheVariants.{Is, NoStep}
 use Rattle.rules.specs.meaning.Lengths.{join}
 use Rattle.rules.specs.meaning.Table.{length_of}
 use Rattle.rules.specs.meaning.Serials.{next_serial}
@@ -36,9 +34,9 @@ is_accepted run s event = eqb (refusal_for run s event) 0
 
 -- ---- "each counter equals the number of accepted steps of its kind"
 -- it is a step, and of a kind
-abbrev pub is_of : (Step → Bool) → Named → Bool
-is_of kind (Is step) = kind step
-is_of kind NoStep = false
+abbrev pub is_of : (Step → Bool) → Option Step → Bool
+is_of kind (Some step) = kind step
+is_of kind None = false
 
 -- how many accepted steps of a kind a list of events has
 unfoldable pub accepted_of : (Step → Bool) → Run → State → List Event → ℕ
@@ -55,9 +53,9 @@ abbrev pub is_send_on : ℕ → ℕ → Step → Bool
 is_send_on a b step = is_send step && (eqb (numbers step).first a && eqb (numbers step).second b)
 
 -- the serial of the parcel that a step puts
-abbrev pub serial_put : Run → State → Named → ℕ
-serial_put run s (Is step) = (effect_of run s step).post.parcel.serial
-serial_put run s NoStep = 0
+abbrev pub serial_put : Run → State → Option Step → ℕ
+serial_put run s (Some step) = (effect_of run s step).post.parcel.serial
+serial_put run s None = 0
 
 -- the serials that a list of events sends there, in order: that of the parcel of each accepted send
 unfoldable pub sent_on : Run → State → ℕ → ℕ → List Event → List ℕ

@@ -1,19 +1,14 @@
 -- A step by its four numbers, as document 01 has them: its kind, and the slot and the link that it names.
 -- Assumes nothing.
 use Rattle.std.specs.Prelude.{ℕ, Bool, ◌||◌, cond, eqb}
+use Rattle.rules.specs.declared.Numbers.{Numbers}
 use Rattle.rules.specs.declared.Parcel.{Parcel}
 use Rattle.rules.specs.declared.Step.{Step}
 use Rattle.rules.specs.declared.Step.TheVariants.{Add, Remove, Query, Send, Merge, Deliver, Again, Lose}
 use Rattle.rules.specs.meaning.Links.{no_link, link_between}
 
 -- "kind (1 add, 2 remove, 3 query, 4 send, 5 merge, 6 deliver, 7 again, 8 lose), first site or slot, second site, id; unused ones 0"
-pub record Four : Type 0 where
-  pub kind : ℕ
-  pub first : ℕ
-  pub second : ℕ
-  pub id : ℕ
-
-unfoldable pub numbers : Step → Four
+unfoldable pub numbers : Step → Numbers
 numbers (Add k e) = record { kind = 1; first = k; second = 0; id = e }
 numbers (Remove k e) = record { kind = 2; first = k; second = 0; id = e }
 numbers (Query k e) = record { kind = 3; first = k; second = 0; id = e }

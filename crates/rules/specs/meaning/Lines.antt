@@ -1,9 +1,8 @@
 -- Numbers lines: the four numbers of a step as text, and read from a text. Assumes nothing.
-use Rattle.std.specs.Prelude.{Bool, true, false, ◌&&◌, ◌||◌, List, [], ◌∷◌, ◌++◌, ℕ, ◌+◌, leb, eqb, get_or}
+use Rattle.std.specs.Prelude.{Bool, true, false, ◌&&◌, ◌||◌, List, [], ◌∷◌, ◌++◌, ℕ, ◌+◌, leb, eqb, get_or, Option, Some, None}
+use Rattle.rules.specs.declared.Numbers.{Numbers}
 use Rattle.rules.specs.meaning.Text.{ascii, Front, front, refused, next, behind}
 use Rattle.rules.specs.meaning.Number.{digits, read_number}
-use Rattle.rules.specs.declared.Line.{Line}
-use Rattle.rules.specs.declared.Line.TheVariants.{Numbers, NoLine}
 
 -- how a line of each kind begins, from kind 1 on
 abbrev pub leads : List (List ℕ)
@@ -64,17 +63,21 @@ unfoldable pub read_field : Bool → List ℕ → List ℕ → Front
 read_field true name xs = next (behind name xs) (λ _ rest. read_number rest)
 read_field false name xs = front 0 xs
 
-abbrev pub and_then : Front → (ℕ → List ℕ → Line) → Line
+-- the four numbers of a line
+abbrev pub four : ℕ → ℕ → ℕ → ℕ → Option Numbers
+four kind first second i = Some (record { kind = kind; first = first; second = second; id = i })
+
+abbrev pub and_then : Front → (ℕ → List ℕ → Option Numbers) → Option Numbers
 and_then (front v rest) f = f v rest
-and_then refused f = NoLine
+and_then refused f = None
 
 -- nothing may stand behind the last number
-abbrev pub ended : ℕ → ℕ → ℕ → ℕ → List ℕ → Line
-ended kind first second i [] = Numbers kind first second i
-ended kind first second i (x ∷ xs) = NoLine
+abbrev pub ended : ℕ → ℕ → ℕ → ℕ → List ℕ → Option Numbers
+ended kind first second i [] = four kind first second i
+ended kind first second i (x ∷ xs) = None
 
 -- the step of a line
-unfoldable pub numbers_of : List ℕ → Line
+unfoldable pub numbers_of : List ℕ → Option Numbers
 numbers_of xs =
     and_then (kind_of xs) (λ kind r.
     and_then (read_number r) (λ first s.

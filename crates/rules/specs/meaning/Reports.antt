@@ -1,20 +1,18 @@
 -- The report program: the text that it prints for the text of some steps. "Reads standard input; runs 3 sites, C = 8, 8 slots, from fresh."
 -- Assumes nothing.
-use Rattle.std.specs.Prelude.{ℕ, zero, suc, ◌+◌, ◌*◌, ◌≡◌, cond, List, [], ◌∷◌, ◌++◌, length, replicate, ltb, eqb}
+use Rattle.std.specs.Prelude.{ℕ, zero, suc, ◌+◌, ◌*◌, ◌≡◌, cond, List, [], ◌∷◌, ◌++◌, length, replicate, ltb, eqb, Option, Some, None, Result}
 use Rattle.rules.specs.declared.Run.{Run}
 use Rattle.rules.specs.declared.Parcel.{Parcel}
 use Rattle.rules.specs.declared.Counts.{Counts}
 use Rattle.rules.specs.declared.Ledger.{Ledger}
 use Rattle.rules.specs.declared.Step.{Step}
-use Rattle.rules.specs.declared.Named.{Named}
-use Rattle.rules.specs.declared.Named.TheVariants.{Is, NoStep}
-use Rattle.rules.specs.declared.Reported.{Reported}
+use Rattle.rules.specs.declared.Refusal.{Refusal}
 use Rattle.rules.specs.meaning.Lengths.{listed}
 use Rattle.rules.specs.meaning.Table.{held, shown}
 use Rattle.rules.specs.meaning.Parcels.{no_parcel, waiting}
 use Rattle.rules.specs.meaning.Ledgers.{begun_ledger}
 use Rattle.rules.specs.meaning.States.{State, lent, table_at}
-use Rattle.rules.specs.meaning.Refusals.{◌when◌, first_given}
+use Rattle.rules.specs.meaning.Refusals.{◌when◌, first_given, number_in, value_in}
 use Rattle.rules.specs.meaning.Runs.{refusal_of, value_of}
 use Rattle.rules.specs.meaning.Kinds.{numbers, is_query}
 use Rattle.rules.specs.meaning.Text.{ascii}
@@ -87,9 +85,9 @@ abbrev pub line_by : ℕ → ℕ → Step → ℕ → List ℕ
 line_by zero n step m = accepted_line n step m
 line_by (suc r) n step m = refused_line n (suc r)
 
-unfoldable pub said_of : ℕ → State → Named → List ℕ
-said_of n s (Is step) = line_by (refusal_of report_run s step) n step (value_of report_run s step)
-said_of n s NoStep = refused_line n 11
+unfoldable pub said_of : ℕ → State → Option Step → List ℕ
+said_of n s (Some step) = line_by (refusal_of report_run s step) n step (value_of report_run s step)
+said_of n s None = refused_line n 11
 
 -- "a last piece of one byte or more without it is refused with 11"
 unfoldable pub last_piece : ℕ → List ℕ → List ℕ
@@ -125,6 +123,14 @@ report_refusal input room = first_given ((12 when ltb input_limit (length input)
 -- the report where none of the two is given, else nothing
 unfoldable pub report_for : List ℕ → ℕ → List ℕ
 report_for input room = cond (eqb (report_refusal input room) 0) (report_of input) []
+
+-- what the report answers: 0 or the number of its refusal, and how many bytes it wrote, 0 on a refusal
+pub record Reported : Type 0 where
+  pub refusal : ℕ
+  pub written : ℕ
+
+abbrev pub as_reported : Result ℕ Refusal → Reported
+as_reported r = record { refusal = number_in r; written = value_in 0 r }
 
 -- the contract of `report`: its answer, and the whole buffer afterwards
 pub record Told (input before : List ℕ) (r : Reported) (after : List ℕ) : Type 0 where

@@ -2,9 +2,7 @@
 -- word after them is 0. Id 0 is an ordinary id; only length 0 marks an unused place."
 -- Each definition goes over the words by pairs, and each computes.
 -- Assumes nothing.
-use Rattle.std.specs.Prelude.{ℕ, zero, suc, ◌*◌, ◌+◌, ◌/◌, Bool, true, false, ◌&&◌, cond, ◌≡◌, List, [], ◌∷◌, length, get_or, leb, ltb, eqb}
-use Rattle.rules.specs.declared.Found.{Found}
-use Rattle.rules.specs.declared.Found.TheVariants.{At, Absent}
+use Rattle.std.specs.Prelude.{ℕ, zero, suc, ◌*◌, ◌+◌, ◌/◌, Bool, true, false, ◌&&◌, cond, ◌≡◌, List, [], ◌∷◌, length, get_or, leb, ltb, eqb, Option, Some, None}
 use Rattle.rules.specs.meaning.Lengths.{M, listed, join}
 
 -- ---- what is laid out
@@ -77,17 +75,17 @@ rank (e ∷ zero ∷ t) x = 0
 rank (e ∷ suc n ∷ t) x = cond (ltb e x) (suc (rank t x)) 0
 
 -- "the place where the id stands or its absence": an id of length 0 stands nowhere
-abbrev pub found_by : ℕ → ℕ → Found
-found_by zero i = Absent
-found_by (suc n) i = At i
+abbrev pub found_by : ℕ → ℕ → Option ℕ
+found_by zero i = None
+found_by (suc n) i = Some i
 
-abbrev pub found_of : List ℕ → ℕ → Found
+abbrev pub found_of : List ℕ → ℕ → Option ℕ
 found_of t x = found_by (length_of t x) (rank t x)
 
 -- the length that each outcome of a lookup tells
-abbrev pub length_found : List ℕ → Found → ℕ
-length_found t (At i) = length_at t i
-length_found t Absent = 0
+abbrev pub length_found : List ℕ → Option ℕ → ℕ
+length_found t (Some i) = length_at t i
+length_found t None = 0
 
 -- ---- a table with another length for one id
 

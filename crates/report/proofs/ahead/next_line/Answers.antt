@@ -1,7 +1,7 @@
 -- `report::ahead::next_line`: an unended last piece and a line that names no step are refused with 11; any other line names its step.
 use native.Mathlib.Omega.{arith}
 use mathlib.Core.Path.{refl, sym, ◌∙◌}
-use Rattle.rules.specs.declared.Named.TheVariants.{Is, NoStep}
+use Rattle.std.specs.Prelude.{Some, None}
 use Rattle.report.proofs.Passing.{next_line, next_unended}
 use Rattle.report.proofs.ahead.next_line.Goals as goal
 
@@ -27,7 +27,7 @@ overflow_add-end c = let e = c in omega (arith, e.line_end-end.ensures.within.in
 pub returns-in_default : goal.returns-in_default
 returns-in_default c = let e = c in
     let s = e in
-    next_line s.args.input.now s.args.start _ e.line_end-end.ensures NoStep _ (omega (arith, e.line_end-end.ensures.within.inside, c.if-end-input.false))
+    next_line s.args.input.now s.args.start _ e.line_end-end.ensures None _ (omega (arith, e.line_end-end.ensures.within.inside, c.if-end-input.false))
     (sym c.in_default.is ∙ c.read_step.ensures) c.no_step-in_default.ensures
 
 pub overflow_add-result : goal.overflow_add-result
@@ -36,5 +36,5 @@ overflow_add-result c = let e = c in omega (arith, e.line_end-end.ensures.within
 pub returns : goal.returns
 returns c = let e = c in
     let s = e in
-    next_line s.args.input.now s.args.start _ e.line_end-end.ensures (Is _) _ (omega (arith, e.line_end-end.ensures.within.inside, c.if-end-input.false))
-    (sym c.in-Is.is ∙ c.read_step.ensures) refl
+    next_line s.args.input.now s.args.start _ e.line_end-end.ensures (Some _) _ (omega (arith, e.line_end-end.ensures.within.inside, c.if-end-input.false))
+    (sym c.in-Some.is ∙ c.read_step.ensures) refl

@@ -1,12 +1,12 @@
 -- What follows for step lines: their pieces, read and written, and that a step that is written is read back. Assumes nothing.
-use Rattle.std.specs.Prelude.{◌≡◌, refl, Bool, true, false, ◌&&◌, ◌||◌, List, [], ◌∷◌, ◌++◌, ℕ, zero, suc, ◌+◌, ◌-◌, ◌^◌, ◌≤◌, ◌<◌, leb, eqb, length, get_or}
+use Rattle.std.specs.Prelude.{◌≡◌, refl, Bool, true, false, ◌&&◌, ◌||◌, List, [], ◌∷◌, ◌++◌, ℕ, zero, suc, ◌+◌, ◌-◌, ◌^◌, ◌≤◌, ◌<◌, leb, eqb, length, get_or, None}
 use Rattle.std.proofs.Common.{sym, ap, ◌∙◌, append_assoc, append-nil, arith, eqb-true, eq-eqb, leb-true}
 use Rattle.rules.proofs.laws.table.View.{parts}
 use Rattle.rules.specs.meaning.Text.{Front, front, refused, next, behind}
 use Rattle.rules.specs.meaning.Number.{digits, digit_of, starts_digit, read_number}
 use Rattle.rules.proofs.laws.line.Numbers.{by_test, read_digits, read_suffix}
-use Rattle.rules.specs.meaning.Lines.{leads, lead, to_name, id_name, has_second, has_id, field, text_of, names_step, first_of, kind_of, read_field, ended, numbers_of}
-use Rattle.rules.specs.declared.Line.TheVariants.{Numbers, NoLine}
+use Rattle.rules.specs.declared.Numbers.{Numbers}
+use Rattle.rules.specs.meaning.Lines.{leads, lead, to_name, id_name, has_second, has_id, field, text_of, names_step, first_of, kind_of, read_field, ended, numbers_of, four}
 
 -- ---- a fixed piece of text
 pub behind_is : (l xs : List ℕ) → behind l (l ++ xs) ≡ front 0 xs
@@ -109,22 +109,22 @@ kind_text xs k rest e =
 
 -- ---- a step from its parts, and where it is refused
 module _ (xs : List ℕ) where
-  pub no_kind : kind_of xs ≡ refused → numbers_of xs ≡ NoLine
+  pub no_kind : kind_of xs ≡ refused → numbers_of xs ≡ None
   unfolding numbers_of
   no_kind e1 = rw e1
 
   module _ (kind : ℕ) (r : List ℕ) (e1 : kind_of xs ≡ front kind r) where
-    pub no_first : read_number r ≡ refused → numbers_of xs ≡ NoLine
+    pub no_first : read_number r ≡ refused → numbers_of xs ≡ None
     unfolding numbers_of
     no_first e2 = rw (e1, e2)
 
     module _ (first : ℕ) (s : List ℕ) (e2 : read_number r ≡ front first s) where
-      pub no_second : read_field (has_second kind) to_name s ≡ refused → numbers_of xs ≡ NoLine
+      pub no_second : read_field (has_second kind) to_name s ≡ refused → numbers_of xs ≡ None
       unfolding numbers_of
       no_second e3 = rw (e1, e2, e3)
 
       module _ (second : ℕ) (t : List ℕ) (e3 : read_field (has_second kind) to_name s ≡ front second t) where
-        pub no_id : read_field (has_id kind) id_name t ≡ refused → numbers_of xs ≡ NoLine
+        pub no_id : read_field (has_id kind) id_name t ≡ refused → numbers_of xs ≡ None
         unfolding numbers_of
         no_id e4 = rw (e1, e2, e3, e4)
 
@@ -132,8 +132,10 @@ module _ (xs : List ℕ) where
         unfolding numbers_of
         at_end i u e4 = rw (e1, e2, e3, e4)
 
-pub ended_says : (k a b i : ℕ) (u : List ℕ) (k' a' b' i' : ℕ) → ended k a b i u ≡ Numbers k' a' b' i' → (u ≡ []) × (k ≡ k') × (a ≡ a') × (b ≡ b') × (i ≡ i')
-ended_says k a b i [] k' a' b' i' e = (refl, cc, cc, cc, cc)
+pub ended_says : (k a b i : ℕ) (u : List ℕ) (k' a' b' i' : ℕ) → ended k a b i u ≡ four k' a' b' i' → (u ≡ []) × (k ≡ k') × (a ≡ a') × (b ≡ b') × (i ≡ i')
+ended_says k a b i [] k' a' b' i' e =
+    let q : ◌≡◌ {A = Numbers} (record { kind = k; first = a; second = b; id = i }) (record { kind = k'; first = a'; second = b'; id = i' }) = cc in
+    (refl, ap (λ (n : Numbers). n.kind) q, ap (λ (n : Numbers). n.first) q, ap (λ (n : Numbers). n.second) q, ap (λ (n : Numbers). n.id) q)
 ended_says k a b i (x ∷ u) k' a' b' i' e = absurd (let z : ◌≡◌ {A = ℕ} 0 1 = cc in omega arith)
 
 -- ---- a step that is written is read back
@@ -149,7 +151,7 @@ step_says kind second i e =
       (λ z. eqb-true i 0 (or_says (has_id kind) (eqb i 0) a.1 z)),
     )
 
-pub written_read : (kind first second i : ℕ) → names_step kind second i ≡ true → first < 2 ^ 64 → second < 2 ^ 64 → i < 2 ^ 64 → numbers_of (text_of kind first second i) ≡ Numbers kind first second i
+pub written_read : (kind first second i : ℕ) → names_step kind second i ≡ true → first < 2 ^ 64 → second < 2 ^ 64 → i < 2 ^ 64 → numbers_of (text_of kind first second i) ≡ four kind first second i
 unfolding text_of starts_digit
 written_read kind first second i e hf hs hi =
     let s = step_says kind second i e in

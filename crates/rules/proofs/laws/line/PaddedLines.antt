@@ -1,12 +1,11 @@
 -- A text is read as four numbers exactly where it is their line but for padding, and no number of it has more than 20 digits. Assumes nothing.
-use Rattle.std.specs.Prelude.{◌≡◌, refl, Bool, true, false, cond, List, [], ◌++◌, ℕ, ◌+◌, ◌^◌, ◌≤◌, ◌<◌, eqb, length}
+use Rattle.std.specs.Prelude.{◌≡◌, refl, Bool, true, false, cond, List, [], ◌++◌, ℕ, ◌+◌, ◌^◌, ◌≤◌, ◌<◌, eqb, length, None}
 use Rattle.std.proofs.Common.{sym, ap, ◌∙◌, append_assoc, append-nil, arith, eq-eqb, le-leb, length-append}
 use Rattle.rules.specs.meaning.Text.{Front, front, next, behind}
 use Rattle.rules.specs.meaning.Number.{most_digits, digits, digit_of, starts_digit, read_number}
 use Rattle.rules.specs.meaning.Padding.{unpadded_from, unpadded, short_from, has_short_numbers}
 use Rattle.rules.proofs.laws.line.Padding.{has_no_digit, unpadded_empty, text_unpadded, text_short, text_shown}
-use Rattle.rules.specs.meaning.Lines.{lead, to_name, id_name, has_second, has_id, field, text_of, names_step, kind_of, read_field, ended, numbers_of}
-use Rattle.rules.specs.declared.Line.TheVariants.{Numbers, NoLine}
+use Rattle.rules.specs.meaning.Lines.{lead, to_name, id_name, has_second, has_id, field, text_of, names_step, kind_of, read_field, ended, numbers_of, four}
 use Rattle.rules.proofs.laws.line.PaddedNumbers.{number_unpadded, number_short, number_room, number_fits, number_shown}
 use Rattle.rules.proofs.laws.line.Lines.{behind_is, behind_text, next_says, front_cases, or_is, field_stops, fields_stop, by_kind, kind_lead, kind_text, no_kind, no_first, no_second, no_id, at_end, ended_says, step_says}
 
@@ -116,7 +115,7 @@ from_parts xs kind first second i r s t e1 e2 e3 e4 =
       id_fits = id-is.0;
     }
 
-pub read_written : (xs : List ℕ) (kind first second i : ℕ) → numbers_of xs ≡ Numbers kind first second i → Written xs kind first second i
+pub read_written : (xs : List ℕ) (kind first second i : ℕ) → numbers_of xs ≡ four kind first second i → Written xs kind first second i
 read_written xs kind first second i e =
     front_cases (kind_of xs) (λ n. no (no_kind xs n)) (λ k r e1.
     front_cases (read_number r) (λ n. no (no_first xs k r e1 n)) (λ a s e2.
@@ -125,7 +124,7 @@ read_written xs kind first second i e =
     let q = ended_says k a b j u kind first second i (sym (at_end xs k r e1 a s e2 b t e3 j u e4) ∙ e) in
     rw (← q.1, ← q.2, ← q.3, ← q.4) (from_parts xs k a b j r s t e1 e2 e3 (e4 ∙ ap (front j) q.0))))))
   where
-    no : numbers_of xs ≡ NoLine → Written xs kind first second i
+    no : numbers_of xs ≡ None → Written xs kind first second i
     no n = absurd (let z : ◌≡◌ {A = ℕ} 0 1 = cc in omega arith)
 
 -- ---- and back: a text that is the line of a step but for padding is read as that step
@@ -138,7 +137,7 @@ field_shown true name xs n ys h fits z stop e s =
 field_shown false name xs n ys h fits z stop e s = (xs, ap (λ (k : ℕ). front k xs) (sym (z refl)), e, s)
 
 -- the last of four readings leaves nothing
-all_read : (xs r s t u : List ℕ) (kind first second i : ℕ) → kind_of xs ≡ front kind r → read_number r ≡ front first s → read_field (has_second kind) to_name s ≡ front second t → read_field (has_id kind) id_name t ≡ front i u → u ≡ [] → numbers_of xs ≡ Numbers kind first second i
+all_read : (xs r s t u : List ℕ) (kind first second i : ℕ) → kind_of xs ≡ front kind r → read_number r ≡ front first s → read_field (has_second kind) to_name s ≡ front second t → read_field (has_id kind) id_name t ≡ front i u → u ≡ [] → numbers_of xs ≡ four kind first second i
 all_read xs r s t u kind first second i e1 e2 e3 e4 e5 = at_end xs kind r e1 first s e2 second t e3 i u e4 ∙ ap (ended kind first second i) e5
 
 -- a lead in front, by the text that is left
@@ -155,7 +154,7 @@ id_shown b xs n fits z e s =
     let g = field_shown b id_name xs n [] id_plain fits z refl (e ∙ sym (append-nil (field b id_name n))) s in
     (g.0, g.1, unpadded_empty g.0 g.2)
 
-pub shown_read : (xs : List ℕ) (kind first second i : ℕ) → names_step kind second i ≡ true → first < 2 ^ 64 → second < 2 ^ 64 → i < 2 ^ 64 → unpadded xs ≡ text_of kind first second i → has_short_numbers xs ≡ true → numbers_of xs ≡ Numbers kind first second i
+pub shown_read : (xs : List ℕ) (kind first second i : ℕ) → names_step kind second i ≡ true → first < 2 ^ 64 → second < 2 ^ 64 → i < 2 ^ 64 → unpadded xs ≡ text_of kind first second i → has_short_numbers xs ≡ true → numbers_of xs ≡ four kind first second i
 unfolding text_of
 shown_read xs kind first second i names hf hs hi e short =
     let n = step_says kind second i names in

@@ -1,21 +1,19 @@
 -- Writing a step and reading it back, reading a line and writing it back without padding, how long a line can be, and the eight forms as document 01 lists them.
 -- Assumes nothing.
 use Prim.Native.Nat.{ℕ, zero, suc, ◌^◌, ◌≤◌, ◌<◌}
-use Rattle.std.proofs.Common.{arith, sym, ap, ◌∙◌, length-append}
+use Rattle.std.proofs.Common.{arith, sym, ap, ◌∙◌, length-append, Option, Some, None}
+use Rattle.rules.specs.declared.Numbers.{Numbers}
 use Rattle.std.specs.Prelude.{◌≡◌, Bool, true, false, length, get_or}
 use Rattle.std.proofs.Math.Path.{refl}
 use mathlib.Core.List.{List, ◌++◌, append-nil}
 use Rattle.rules.specs.declared.Step.{Step}
 use Rattle.rules.specs.declared.Step.TheVariants.{Add, Remove, Query, Send, Merge, Deliver, Again, Lose}
-use Rattle.rules.specs.declared.Line.{Line}
-use Rattle.rules.specs.declared.Line.TheVariants.{Numbers, NoLine}
-use Rattle.rules.specs.declared.Named.TheVariants.{Is, NoStep}
 use Rattle.rules.specs.meaning.Text.{ascii}
 use Rattle.rules.specs.meaning.Number.{up_to, digits}
 use Rattle.rules.specs.meaning.Padding.{unpadded, is_padded, has_short_numbers}
 use Rattle.rules.proofs.laws.line.Numbers.{by_test, digits_length}
 use Rattle.rules.proofs.laws.line.Padding.{unpadded_same, unpadded_none}
-use Rattle.rules.specs.meaning.Lines.{lead, to_name, id_name, has_second, has_id, field, text_of, names_step, numbers_of}
+use Rattle.rules.specs.meaning.Lines.{lead, to_name, id_name, has_second, has_id, field, text_of, names_step, numbers_of, four}
 use Rattle.rules.proofs.laws.line.Lines.{by_kind, written_read, step_says}
 use Rattle.rules.proofs.laws.line.PaddedLines.{field_room, line_room, read_written, shown_read}
 use Rattle.rules.specs.meaning.Kinds.{numbers}
@@ -57,7 +55,7 @@ module _ (n m i : ℕ) where
 
 -- the four numbers of a step name it
 pub numbers_name : (step : Step) → (names_step (numbers step).kind (numbers step).second (numbers step).id ≡ true)
-    × (get_or (steps (numbers step).first (numbers step).second (numbers step).id) (numbers step).kind NoStep ≡ Is step)
+    × (get_or (steps (numbers step).first (numbers step).second (numbers step).id) (numbers step).kind None ≡ Some step)
 unfolding numbers names_step
 numbers_name (Add k e) = (refl, refl)
 numbers_name (Remove k e) = (refl, refl)
@@ -69,7 +67,7 @@ numbers_name (Again i) = (refl, refl)
 numbers_name (Lose i) = (refl, refl)
 
 -- "A step line written is read back as the same step"
-pub written_step : (step : Step) → Fits step → step_of (line_of step) ≡ Is step
+pub written_step : (step : Step) → Fits step → step_of (line_of step) ≡ Some step
 unfolding line_of step_of step_in step_for
 written_step step h =
     let n = numbers_name step in
@@ -78,7 +76,7 @@ written_step step h =
 -- "no two steps have one line"
 pub one_step : (a b : Step) → Fits a → Fits b → line_of a ≡ line_of b → a ≡ b
 one_step a b p q e =
-    let h : Is a ≡ Is b = sym (written_step a p) ∙ ap step_of e ∙ written_step b q in
+    let h : Some a ≡ Some b = sym (written_step a p) ∙ ap step_of e ∙ written_step b q in
     cc
 
 -- ---- a line that is read
@@ -87,10 +85,10 @@ module _ (first second e : ℕ) where
   abbrev Same : ℕ → Step → Type 0
   Same kind step = (line_of step ≡ text_of kind first second e) × (first < 2 ^ 64 → second < 2 ^ 64 → e < 2 ^ 64 → Fits step)
 
-  none_is : (kind : ℕ) (step : Step) → NoStep ≡ Is step → Same kind step
+  none_is : (kind : ℕ) (step : Step) → None ≡ Some step → Same kind step
   none_is kind step h = absurd (let z : ◌≡◌ {A = ℕ} 0 1 = cc in omega arith)
 
-  named : (kind : ℕ) (step : Step) → names_step kind second e ≡ true → get_or (steps first second e) kind NoStep ≡ Is step → Same kind step
+  named : (kind : ℕ) (step : Step) → names_step kind second e ≡ true → get_or (steps first second e) kind None ≡ Some step → Same kind step
   unfolding line_of numbers
   named zero step y h = none_is zero step h
   named (suc zero) step y h =
@@ -126,7 +124,7 @@ module _ (first second e : ℕ) where
       rw (← p, s.2 refl, s.3 refl) (refl, λ a b c. (a, b, c))
   named (suc (suc (suc (suc (suc (suc (suc (suc (suc k))))))))) step y h = none_is (suc (suc (suc (suc (suc (suc (suc (suc (suc k))))))))) step h
 
-  pub named_line : (kind : ℕ) (step : Step) → step_for kind first second e ≡ Is step → Same kind step
+  pub named_line : (kind : ℕ) (step : Step) → step_for kind first second e ≡ Some step → Same kind step
   unfolding step_for
   named_line kind step h =
       by_test (names_step kind second e)
@@ -134,9 +132,9 @@ module _ (first second e : ℕ) where
       (λ n. none_is kind step (rw n at h))
 
 -- what a text says, by its two cases
-line_cases : {P : Type 0} (l : Line) → (l ≡ NoLine → P) → ((kind first second e : ℕ) → l ≡ Numbers kind first second e → P) → P
-line_cases (Numbers kind first second e) f g = g kind first second e refl
-line_cases NoLine f g = f refl
+line_cases : {P : Type 0} (l : Option Numbers) → (l ≡ None → P) → ((kind first second e : ℕ) → l ≡ four kind first second e → P) → P
+line_cases (Some n) f g = g n.kind n.first n.second n.id refl
+line_cases None f g = f refl
 
 -- ---- "The longest line has 83 bytes"
 room_within : (kind : ℕ) → 1 ≤ kind → kind ≤ 8 → line_room kind ≤ 83
@@ -174,13 +172,13 @@ pub record Reads (line : List ℕ) (step : Step) : Type 0 where
   pub short : has_short_numbers line ≡ true
   pub within : length line ≤ 83
 
-pub read_step : (line : List ℕ) (step : Step) → step_of line ≡ Is step → Reads line step
+pub read_step : (line : List ℕ) (step : Step) → step_of line ≡ Some step → Reads line step
 unfolding step_of step_in
 read_step line step h =
     line_cases (numbers_of line)
-    (λ n. absurd (let q : NoStep ≡ Is step = rw n at h in let z : ◌≡◌ {A = ℕ} 0 1 = cc in omega arith))
+    (λ n. absurd (let q : None ≡ Some step = rw n at h in let z : ◌≡◌ {A = ℕ} 0 1 = cc in omega arith))
     (λ kind first second e n.
-    let q : step_for kind first second e ≡ Is step = rw n at h in
+    let q : step_for kind first second e ≡ Some step = rw n at h in
     let w = read_written line kind first second e n in
     let s = named_line first second e kind step q in
     let k = step_says kind second e w.step in
@@ -192,30 +190,30 @@ read_step line step h =
     })
 
 -- so a text of more than 83 bytes is no step line
-pub read_at_most_83 : (line : List ℕ) (step : Step) → step_of line ≡ Is step → length line ≤ 83
+pub read_at_most_83 : (line : List ℕ) (step : Step) → step_of line ≡ Some step → length line ≤ 83
 read_at_most_83 line step h = (read_step line step h).within
 
 -- and back: the line of a step with padding, but no number of more than 20 digits, is read as that step
-pub padded_step : (line : List ℕ) (step : Step) → unpadded line ≡ line_of step → Fits step → has_short_numbers line ≡ true → step_of line ≡ Is step
+pub padded_step : (line : List ℕ) (step : Step) → unpadded line ≡ line_of step → Fits step → has_short_numbers line ≡ true → step_of line ≡ Some step
 unfolding line_of step_of step_in step_for
 padded_step line step e h short =
     let n = numbers_name step in
     rw (shown_read line _ (numbers step).first _ _ n.0 h.0 h.1 h.2 e short, n.0) n.1
 
 -- a line that is read has its step's line left, which is read as the same step and has no padding
-pub read_again : (line : List ℕ) (step : Step) → step_of line ≡ Is step → (step_of (unpadded line) ≡ Is step) × (is_padded (line_of step) ≡ false)
+pub read_again : (line : List ℕ) (step : Step) → step_of line ≡ Some step → (step_of (unpadded line) ≡ Some step) × (is_padded (line_of step) ≡ false)
 unfolding is_padded unpadded
 read_again line step h =
     let r = read_step line step h in
     (ap step_of (sym r.text) ∙ written_step step r.fits, ap is_padded r.text ∙ unpadded_none false line)
 
 -- a line that has no padding is written back byte for byte
-pub read_same : (line : List ℕ) (step : Step) → is_padded line ≡ false → step_of line ≡ Is step → (line_of step ≡ line) × Fits step
+pub read_same : (line : List ℕ) (step : Step) → is_padded line ≡ false → step_of line ≡ Some step → (line_of step ≡ line) × Fits step
 unfolding is_padded unpadded
 read_same line step n h = let r = read_step line step h in (r.text ∙ unpadded_same false line n, r.fits)
 
 -- two lines are one step exactly where they differ in padding alone
-pub one_step_two_lines : (a b : List ℕ) (s t : Step) → step_of a ≡ Is s → step_of b ≡ Is t → (s ≡ t → unpadded a ≡ unpadded b) × (unpadded a ≡ unpadded b → s ≡ t)
+pub one_step_two_lines : (a b : List ℕ) (s t : Step) → step_of a ≡ Some s → step_of b ≡ Some t → (s ≡ t → unpadded a ≡ unpadded b) × (unpadded a ≡ unpadded b → s ≡ t)
 one_step_two_lines a b s t p q =
     let x = read_step a s p in
     let y = read_step b t q in

@@ -1,6 +1,6 @@
 -- No number of a report has padding: each line of it is names with numbers behind them, and the numbers of a sound run fit 64 bits.
 -- Assumes nothing.
-use Rattle.std.specs.Prelude.{ℕ, zero, suc, ◌+◌, ◌^◌, ◌≤◌, ◌<◌, ◌≡◌, Bool, true, not, length, ltb, eqb}
+use Rattle.std.specs.Prelude.{ℕ, zero, suc, ◌+◌, ◌^◌, ◌≤◌, ◌<◌, ◌≡◌, Bool, true, not, length, ltb, eqb, Option, Some, None}
 use Rattle.std.proofs.Common.{arith, ltb-false}
 use Rattle.std.proofs.Math.Path.{refl}
 use Rattle.std.proofs.Math.Bool.{false, cond}
@@ -9,8 +9,6 @@ use mathlib.Core.List.{List, [], ◌∷◌, ◌++◌, append_assoc}
 use Rattle.rules.specs.declared.Counts.{Counts}
 use Rattle.rules.specs.declared.Step.{Step}
 use Rattle.rules.specs.declared.Step.TheVariants.{Add, Remove, Query, Send, Merge, Deliver, Again, Lose}
-use Rattle.rules.specs.declared.Named.{Named}
-use Rattle.rules.specs.declared.Named.TheVariants.{Is, NoStep}
 use Rattle.rules.specs.meaning.Lengths.{M, listed}
 use Rattle.rules.specs.meaning.Table.{held, shown}
 use Rattle.rules.specs.meaning.Parcels.{waiting}
@@ -148,9 +146,9 @@ module _ (n : ℕ) (fits : n < 2 ^ 64) (s : State) (rest : List ℕ) (bare : is_
   unfolding said_of
   said_bare line so = go (step_of line) refl
     where
-      go : (r : Named) → step_of line ≡ r → is_padded (said_of n s r ++ rest) ≡ false
-      go (Is step) e = step_bare step (read_step line step e).fits so (refusal_of report_run s step) refl (refusal_within report_run s step)
-      go NoStep e = refused_bare rest bare n 11 fits (omega arith)
+      go : (r : Option Step) → step_of line ≡ r → is_padded (said_of n s r ++ rest) ≡ false
+      go (Some step) e = step_bare step (read_step line step e).fits so (refusal_of report_run s step) refl (refusal_within report_run s step)
+      go None e = refused_bare rest bare n 11 fits (omega arith)
 
 -- ---- the whole
 report_bare : (n : ℕ) (s : State) (line input : List ℕ) → StateSound report_run s → n + length input < 2 ^ 64 → is_padded (report_from n s line input) ≡ false

@@ -1,11 +1,9 @@
 -- The laws of a report: how it goes on byte by byte, that it fits the room named for it, and that the contract of `report` leaves one result.
 -- Assumes nothing.
-use Rattle.std.specs.Prelude.{ℕ, zero, suc, ◌+◌, ◌*◌, ◌≤◌, ◌<◌, ◌≡◌, refl, Bool, true, false, cond, List, [], ◌∷◌, ◌++◌, length, eqb}
+use Rattle.std.specs.Prelude.{ℕ, zero, suc, ◌+◌, ◌*◌, ◌≤◌, ◌<◌, ◌≡◌, refl, Bool, true, false, cond, List, [], ◌∷◌, ◌++◌, length, eqb, Option, Some, None}
 use Rattle.std.proofs.Common.{arith, length-append}
 use borrow.Author.Tests.{lt-ltb, le-ltb, eqb-true, eq-eqb, ne_eqb}
 use Rattle.rules.specs.declared.Step.{Step}
-use Rattle.rules.specs.declared.Named.{Named}
-use Rattle.rules.specs.declared.Named.TheVariants.{Is, NoStep}
 use Rattle.rules.specs.meaning.States.{State}
 use Rattle.rules.specs.meaning.Refusals.{first_given}
 use Rattle.rules.specs.meaning.Runs.{refusal_of, value_of}
@@ -74,12 +72,12 @@ pub said_within : (n : ℕ) (s : State) (line : List ℕ) → n < 100000 → len
 unfolding said_of unpadded
 said_within n s line p = go (step_of line) refl
   where
-    no_longer : (step : Step) → step_of line ≡ Is step → length (line_of step) ≤ length line
+    no_longer : (step : Step) → step_of line ≡ Some step → length (line_of step) ≤ length line
     no_longer step e = rw (read_step line step e).text (unpadded_length false line)
 
-    go : (r : Named) → step_of line ≡ r → length (said_of n s r) ≤ 22 * (length line + 1)
-    go (Is step) e = omega (arith, line_by_within (refusal_of report_run s step) n step (value_of report_run s step) p (refusal_within report_run s step), no_longer step e)
-    go NoStep e = let a = refused_within n 11 p (omega arith) in omega arith
+    go : (r : Option Step) → step_of line ≡ r → length (said_of n s r) ≤ 22 * (length line + 1)
+    go (Some step) e = omega (arith, line_by_within (refusal_of report_run s step) n step (value_of report_run s step) p (refusal_within report_run s step), no_longer step e)
+    go None e = let a = refused_within n 11 p (omega arith) in omega arith
 
 last_within : (n : ℕ) (line : List ℕ) → n < 100000 → length (last_piece n line) ≤ 22 * length line
 unfolding last_piece

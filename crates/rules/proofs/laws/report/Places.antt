@@ -1,12 +1,12 @@
 -- How a report goes on, said of places in the input: the line so far is the part from its first byte up to the place. And the states of a
 -- report, which are sound.
 -- Assumes nothing.
-use Rattle.std.specs.Prelude.{ℕ, suc, ◌+◌, ◌≤◌, ◌<◌, ◌≡◌, refl, List, [], ◌∷◌, ◌++◌, length, replicate, get_or, take, drop}
+use Rattle.std.specs.Prelude.{ℕ, suc, ◌+◌, ◌≤◌, ◌<◌, ◌≡◌, refl, List, [], ◌∷◌, ◌++◌, length, replicate, get_or, take, drop, Option}
+use Rattle.rules.specs.declared.Step.{Step}
 use Rattle.std.proofs.Common.{le_refl, arith, sym, ap, ◌∙◌, length-append, length-take-le, take-suc, drop-cons}
 use Rattle.std.proofs.Math.Seq.{slice, slice_empty, length-slice, drop-length}
 use Rattle.std.proofs.lemmas.List.{drop-append-le}
 use Rattle.rules.specs.declared.Parcel.{Parcel}
-use Rattle.rules.specs.declared.Named.{Named}
 use Rattle.rules.specs.meaning.Table.{unused, sound_from}
 use Rattle.rules.specs.meaning.Parcels.{no_parcel, cleared, is_free, is_occupied, slots_sound, waiting}
 use Rattle.rules.specs.meaning.Links.{pair_sound, over_row, over_rows, links_sound, links_begun}
@@ -79,5 +79,5 @@ pub start_sound : StateSound report_run report_start
 unfolding unused sound_from is_free is_occupied slots_sound waiting counts_sound sizes_right tables_sound links_sound over_rows over_row pair_sound
 start_sound = (refl, refl, refl, refl, refl)
 
-pub state_sound : (s : State) (r : Named) → StateSound report_run s → StateSound report_run (named_after report_run s r)
+pub state_sound : (s : State) (r : Option Step) → StateSound report_run s → StateSound report_run (named_after report_run s r)
 state_sound s r h = named_sound report_run s h r

@@ -1,10 +1,8 @@
 -- The report of the lines of some steps: it is made of what each step says in its turn, and the end. A text that no step has is refused.
 -- Assumes nothing.
-use Rattle.std.specs.Prelude.{ℕ, zero, suc, ◌+◌, ◌/◌, ◌%◌, ◌^◌, ◌≡◌, refl, Bool, true, false, ◌&&◌, not, List, [], ◌∷◌, ◌++◌, get_or, ltb, eqb}
+use Rattle.std.specs.Prelude.{ℕ, zero, suc, ◌+◌, ◌/◌, ◌%◌, ◌^◌, ◌≡◌, refl, Bool, true, false, ◌&&◌, not, List, [], ◌∷◌, ◌++◌, get_or, ltb, eqb, Option, Some}
 use Rattle.std.proofs.Common.{arith, ap, ◌∙◌, ltb-true, ne_eqb}
 use Rattle.rules.specs.declared.Step.{Step}
-use Rattle.rules.specs.declared.Named.{Named}
-use Rattle.rules.specs.declared.Named.TheVariants.{Is}
 use Rattle.rules.proofs.laws.table.View.{parts}
 use Rattle.rules.specs.meaning.Kinds.{numbers}
 use Rattle.rules.specs.meaning.States.{State}
@@ -100,15 +98,15 @@ steps_fit (step ∷ steps) h = let p = parts (fits step) _ h in (step_fits step 
 -- what the steps say in their turn, from line n on in a state, and the end
 unfoldable pub steps_from : ℕ → State → List Step → List ℕ
 steps_from n s [] = end_lines s
-steps_from n s (step ∷ steps) = said_of n s (Is step) ++ steps_from (suc n) (after report_run s step) steps
+steps_from n s (step ∷ steps) = said_of n s (Some step) ++ steps_from (suc n) (after report_run s step) steps
 
 steps_from_law : (n : ℕ) (s : State) (steps : List Step) → AllFit steps → report_from n s [] (lines_of steps) ≡ steps_from n s steps
 unfolding lines_of steps_from named_after
 steps_from_law n s [] h = report_done n s
 steps_from_law n s (step ∷ steps) h =
     report_text n s (line_of step) (lines_of steps) (line_unbroken step)
-    ∙ ap (λ (r : Named). said_of n s r ++ report_from (suc n) (named_after report_run s r) [] (lines_of steps)) (written_step step h.0)
-    ∙ ap (λ (t : List ℕ). said_of n s (Is step) ++ t) (steps_from_law (suc n) (after report_run s step) steps h.1)
+    ∙ ap (λ (r : Option Step). said_of n s r ++ report_from (suc n) (named_after report_run s r) [] (lines_of steps)) (written_step step h.0)
+    ∙ ap (λ (t : List ℕ). said_of n s (Some step) ++ t) (steps_from_law (suc n) (after report_run s step) steps h.1)
 
 -- the report of the lines of some steps is what the steps say, run from fresh
 pub report_of_steps : (steps : List Step) → AllFit steps → report_of (lines_of steps) ≡ steps_from 1 report_start steps

@@ -2,11 +2,10 @@
 -- know which operations there are.
 -- Assumes nothing.
 use Prim.Native.Nat.{ℕ, zero, suc, ◌≤◌, ◌<◌}
-use Rattle.std.specs.Prelude.{true, cond, ◌≡◌, [], ◌++◌, length}
+use Rattle.std.specs.Prelude.{true, cond, ◌≡◌, [], ◌++◌, length, None}
 use Rattle.std.proofs.Math.Path.{refl}
 use Rattle.rules.specs.declared.Run.{Run}
 use Rattle.rules.specs.declared.Step.{Step}
-use Rattle.rules.specs.declared.Named.TheVariants.{NoStep}
 use Rattle.rules.specs.meaning.Lengths.{join}
 use Rattle.rules.specs.meaning.States.{State, StateSound, table_at}
 use Rattle.rules.specs.meaning.Steps.{ids_of}
@@ -19,7 +18,7 @@ use Rattle.rules.specs.meaning.Histories.{length_in, largest}
 -- of the parcels and the ledger: it is a step, or it leaves both alone
 pub data Parcels (run : Run) (s : State) (event : Event) : Type 0 where
   by_step : (step : Step) → event ≡ takes step → Parcels run s event
-  untouched : step_in event ≡ NoStep → (outcome run s event).state.slots ≡ s.slots → (outcome run s event).state.ledger ≡ s.ledger → Parcels run s event
+  untouched : step_in event ≡ None → (outcome run s event).state.slots ≡ s.slots → (outcome run s event).state.ledger ≡ s.ledger → Parcels run s event
 
 module _ (run : Run) (s : State) (event : Event) where
   abbrev comes : Outcome

@@ -1,10 +1,8 @@
 -- A sound table by its places: what a proof about code reads of a table, and what it shows of one. `Laid` is the interface, and the
 -- bridge from the definition and back is crossed here, once.
 -- Assumes nothing.
-use Rattle.std.specs.Prelude.{ℕ, zero, suc, ◌+◌, ◌*◌, ◌%◌, ◌≤◌, ◌<◌, true, cond, ◌≡◌, refl, ◌⊎◌, List, [], ◌∷◌, length, get_or, ltb}
+use Rattle.std.specs.Prelude.{ℕ, zero, suc, ◌+◌, ◌*◌, ◌%◌, ◌≤◌, ◌<◌, true, cond, ◌≡◌, refl, ◌⊎◌, List, [], ◌∷◌, length, get_or, ltb, Option, Some, None}
 use Rattle.std.proofs.Common.{zero-le, suc-le-suc, le_refl, le_of_suc-le-suc, not-suc-le-zero, eq-or-lt_of_le, arith, sym, ap, ◌∙◌, ⊎_elim, inl, inr, lt-ltb, le-ltb}
-use Rattle.rules.specs.declared.Found.{Found}
-use Rattle.rules.specs.declared.Found.TheVariants.{At, Absent}
 use Rattle.rules.specs.meaning.Table.{sound, id_at, length_at, length_of, held, rank, found_by, found_of, length_found}
 use Rattle.rules.proofs.laws.table.Order.{Side, Side.below, Side.same, Side.above, side, lt_or_le}
 use Rattle.rules.proofs.laws.table.View.{Unused, Unused.none, Unused.pair, Sound, Sound.rest, Sound.used, seen, say}
@@ -213,14 +211,14 @@ rank_says {most} {lo} (used {e = e} {n = n} {t = t} l h s) y = go (lt_or_le e y)
     go (inl p) ih = rw (lt-ltb e y p) (suc-le-suc ih.0, (first p ih.1.0, later ih.1.1))
     go (inr p) ih = rw (le-ltb e y p) (zero-le, ((λ q r. absurd (not-suc-le-zero r)), (λ q r m. omega (arith, from_lo (used (le_refl e) h s) q m))))
 
-by_length : (n i : ℕ) → 1 ≤ n → found_by n i ≡ At i
+by_length : (n i : ℕ) → 1 ≤ n → found_by n i ≡ Some i
 by_length zero i h = absurd (omega arith)
 by_length (suc n) i h = refl
 
-never : (f : Found) (i : ℕ) → f ≡ Absent → f ≡ At i → ⊥
+never : (f : Option ℕ) (i : ℕ) → f ≡ None → f ≡ Some i → ⊥
 never f i p q = let z : ◌≡◌ {A = ℕ} 0 1 = cc in omega arith
 
-is_place : (i j : ℕ) → At i ≡ At j → i ≡ j
+is_place : (i j : ℕ) → Some i ≡ Some j → i ≡ j
 is_place i j p = cc
 
 -- as code proofs say it, of a table with k entries
@@ -245,15 +243,15 @@ module _ {most : ℕ} {t : List ℕ} {k : ℕ} (w : Laid most t k) where
   unused_at i h = ⊎_elim (λ p. absurd (omega (arith, w.low i p))) (λ p. p) (lt_or_le i k)
 
   -- where an id stands
-  pub found_at : (x i : ℕ) → i < k → id_at t i ≡ x → found_of t x ≡ At i
+  pub found_at : (x i : ℕ) → i < k → id_at t i ≡ x → found_of t x ≡ Some i
   found_at x i p q =
       rw (length_of_at x i p q, rank_is x i (omega arith) (λ j r. omega (arith, w.rises j i r p, q)) (λ r. omega (arith, q)))
       (by_length (length_at t i) i (w.low i p))
 
-  pub found_none : (x : ℕ) → ((i : ℕ) → i < k → id_at t i ≡ x → ⊥) → found_of t x ≡ Absent
+  pub found_none : (x : ℕ) → ((i : ℕ) → i < k → id_at t i ≡ x → ⊥) → found_of t x ≡ None
   found_none x h = rw (length_of_none x h)
 
-  pub at_found : (x i : ℕ) → found_of t x ≡ At i → (i < k) × (id_at t i ≡ x) × (length_of t x ≡ length_at t i)
+  pub at_found : (x i : ℕ) → found_of t x ≡ Some i → (i < k) × (id_at t i ≡ x) × (length_of t x ≡ length_at t i)
   at_found x i h = go (length_of t x) refl
     where
       go : (n : ℕ) → length_of t x ≡ n → (i < k) × (id_at t i ≡ x) × (length_of t x ≡ length_at t i)
@@ -265,7 +263,7 @@ module _ {most : ℕ} {t : List ℕ} {k : ℕ} (w : Laid most t k) where
           let in_use : i < k = omega (arith, r.0, same_place, held_laid w) in
           (in_use, at, length_of_at x i in_use at)
 
-  pub none_found : (x : ℕ) → found_of t x ≡ Absent → length_of t x ≡ 0
+  pub none_found : (x : ℕ) → found_of t x ≡ None → length_of t x ≡ 0
   none_found x h = go (length_of t x) refl
     where
       go : (n : ℕ) → length_of t x ≡ n → length_of t x ≡ 0

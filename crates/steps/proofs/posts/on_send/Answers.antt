@@ -3,7 +3,7 @@ use Prim.Native.Nat.{ℕ, ◌+◌, ◌*◌, ◌≤◌, ◌<◌}
 use mathlib.Core.Path.{◌≡◌, sym, ap, ◌∙◌}
 use mathlib.Core.List.{List}
 use lib.ListN.{length}
-use Rattle.rules.specs.declared.Found.TheVariants.{At}
+use Rattle.std.specs.Prelude.{Some}
 use Rattle.rules.specs.meaning.Table.{SoundTable, length_at, found_of, length_of}
 use Rattle.rules.specs.meaning.States.{table_at}
 use Rattle.table.proofs.Raising.{place, its, above_zero, none}
@@ -84,7 +84,7 @@ pub overflow_mul-parcel : goal.overflow_mul-parcel
 overflow_mul-parcel c =
     let from_in : c.args.from < c.args.run.sites = c.if-run-from.false in
     let found_of_law : c.lookup.result ≡ found_of (table_at c.args.run ((c.args.words.now)) c.args.from) c.args.id = let p = c in let a = c.args in told_of a.run ((c.args.words.now)) a.from _ _ p.part_of-part.ensures.0 p.part_of-part.ensures.1 (λ (t : List ℕ). found_of t a.id) c.lookup.ensures in
-    let found : found_of (table_at c.args.run ((c.args.words.now)) c.args.from) c.args.id ≡ At ((c.in-At.i)) = sym (found_of_law) ∙ c.in-At.is in
+    let found : found_of (table_at c.args.run ((c.args.words.now)) c.args.from) c.args.id ≡ Some ((c.in-At.i)) = sym (found_of_law) ∙ c.in-At.is in
     let sound_of : SoundTable (table_at c.args.run ((c.args.words.now)) c.args.from) = site_sound c.args.run ((c.args.words.now)) c.requires c.args.from (from_in) in
     let low : 2 * (c.in-At.i) + 1 < length (table_at c.args.run ((c.args.words.now)) c.args.from) = place _ _ ((c.in-At.i)) (sound_of) (found) in
     let small : 2 * (c.in-At.i) + 1 < 4096 = let p = c in omega (arith, low, site_length c.args.run ((c.args.words.now)) c.requires c.args.from (from_in), c.requires.sized.small) in
@@ -94,7 +94,7 @@ pub overflow_add-parcel : goal.overflow_add-parcel
 overflow_add-parcel c =
     let from_in : c.args.from < c.args.run.sites = c.if-run-from.false in
     let found_of_law : c.lookup.result ≡ found_of (table_at c.args.run ((c.args.words.now)) c.args.from) c.args.id = let p = c in let a = c.args in told_of a.run ((c.args.words.now)) a.from _ _ p.part_of-part.ensures.0 p.part_of-part.ensures.1 (λ (t : List ℕ). found_of t a.id) c.lookup.ensures in
-    let found : found_of (table_at c.args.run ((c.args.words.now)) c.args.from) c.args.id ≡ At ((c.in-At.i)) = sym (found_of_law) ∙ c.in-At.is in
+    let found : found_of (table_at c.args.run ((c.args.words.now)) c.args.from) c.args.id ≡ Some ((c.in-At.i)) = sym (found_of_law) ∙ c.in-At.is in
     let sound_of : SoundTable (table_at c.args.run ((c.args.words.now)) c.args.from) = site_sound c.args.run ((c.args.words.now)) c.requires c.args.from (from_in) in
     let low : 2 * (c.in-At.i) + 1 < length (table_at c.args.run ((c.args.words.now)) c.args.from) = place _ _ ((c.in-At.i)) (sound_of) (found) in
     let small : 2 * (c.in-At.i) + 1 < 4096 = let p = c in omega (arith, low, site_length c.args.run ((c.args.words.now)) c.requires c.args.from (from_in), c.requires.sized.small) in
@@ -104,7 +104,7 @@ pub offset_bounds-own-i : goal.offset_bounds-own-i
 offset_bounds-own-i c =
     let from_in : c.args.from < c.args.run.sites = c.if-run-from.false in
     let found_of_law : c.lookup.result ≡ found_of (table_at c.args.run ((c.args.words.now)) c.args.from) c.args.id = let p = c in let a = c.args in told_of a.run ((c.args.words.now)) a.from _ _ p.part_of-part.ensures.0 p.part_of-part.ensures.1 (λ (t : List ℕ). found_of t a.id) c.lookup.ensures in
-    let found : found_of (table_at c.args.run ((c.args.words.now)) c.args.from) c.args.id ≡ At ((c.in-At.i)) = sym (found_of_law) ∙ c.in-At.is in
+    let found : found_of (table_at c.args.run ((c.args.words.now)) c.args.from) c.args.id ≡ Some ((c.in-At.i)) = sym (found_of_law) ∙ c.in-At.is in
     let sound_of : SoundTable (table_at c.args.run ((c.args.words.now)) c.args.from) = site_sound c.args.run ((c.args.words.now)) c.requires c.args.from (from_in) in
     let low : 2 * (c.in-At.i) + 1 < length (table_at c.args.run ((c.args.words.now)) c.args.from) = place _ _ ((c.in-At.i)) (sound_of) (found) in
     let small : 2 * (c.in-At.i) + 1 < 4096 = let p = c in omega (arith, low, site_length c.args.run ((c.args.words.now)) c.requires c.args.from (from_in), c.requires.sized.small) in
@@ -113,7 +113,7 @@ offset_bounds-own-i c =
 pub bounds-own-i : goal.bounds-own-i
 bounds-own-i c =
     let found_of_law : c.lookup.result ≡ found_of (table_at c.args.run ((c.args.words.now)) c.args.from) c.args.id = let p = c in let a = c.args in told_of a.run ((c.args.words.now)) a.from _ _ p.part_of-part.ensures.0 p.part_of-part.ensures.1 (λ (t : List ℕ). found_of t a.id) c.lookup.ensures in
-    let found : found_of (table_at c.args.run ((c.args.words.now)) c.args.from) c.args.id ≡ At ((c.in-At.i)) = sym (found_of_law) ∙ c.in-At.is in
+    let found : found_of (table_at c.args.run ((c.args.words.now)) c.args.from) c.args.id ≡ Some ((c.in-At.i)) = sym (found_of_law) ∙ c.in-At.is in
     let from_in : c.args.from < c.args.run.sites = c.if-run-from.false in
     let sound_of : SoundTable (table_at c.args.run ((c.args.words.now)) c.args.from) = site_sound c.args.run ((c.args.words.now)) c.requires c.args.from (from_in) in
     let low : 2 * (c.in-At.i) + 1 < length (table_at c.args.run ((c.args.words.now)) c.args.from) = place _ _ ((c.in-At.i)) (sound_of) (found) in
@@ -135,7 +135,7 @@ returns c =
     let to_in : c.args.to < c.args.run.sites = c.if-run-to.false in
     let sound_of : SoundTable (table_at c.args.run ((c.args.words.now)) c.args.from) = site_sound c.args.run ((c.args.words.now)) c.requires c.args.from (from_in) in
     let found_of_law : c.lookup.result ≡ found_of (table_at c.args.run ((c.args.words.now)) c.args.from) c.args.id = let p = c in let a = c.args in told_of a.run ((c.args.words.now)) a.from _ _ p.part_of-part.ensures.0 p.part_of-part.ensures.1 (λ (t : List ℕ). found_of t a.id) c.lookup.ensures in
-    let found : found_of (table_at c.args.run ((c.args.words.now)) c.args.from) c.args.id ≡ At ((c.in-At.i)) = sym (found_of_law) ∙ c.in-At.is in
+    let found : found_of (table_at c.args.run ((c.args.words.now)) c.args.from) c.args.id ≡ Some ((c.in-At.i)) = sym (found_of_law) ∙ c.in-At.is in
     let s = c in
     let k = s in
     let p = c in
