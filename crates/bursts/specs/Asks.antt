@@ -2,7 +2,7 @@
 -- Assumes nothing.
 use Rattle.std.specs.Prelude.{ℕ, zero, suc, ◌+◌, ◌*◌, ◌/◌, ◌%◌, not, List, [], ◌∷◌, get_or, set, ltb, eqb, Option, Some, None}
 use Rattle.rules.specs.declared.Step.{Step}
-use Rattle.rules.specs.declared.Answer.{Answer}
+use Rattle.rules.specs.meaning.Operations.{Answer}
 use Rattle.rules.specs.declared.Step.TheVariants.{Query}
 use Rattle.rules.specs.meaning.Refusals.{◌when◌, first_given}
 use Rattle.rules.specs.meaning.StepLines.{step_for}

@@ -9,7 +9,7 @@ use lib.ListN.{length, take, drop, get_or}
 use lib.Seq.{slice, slice_empty, drop-length}
 use Rattle.std.specs.Prelude.{Option, Some, None}
 use Rattle.rules.specs.declared.Step.{Step}
-use Rattle.rules.specs.declared.Answer.{Answer}
+use Rattle.rules.specs.meaning.Operations.{Answer}
 use Rattle.rules.specs.meaning.States.{State, StateSound}
 use Rattle.rules.specs.meaning.Acts.{Acted, answer_under, after_under}
 use Rattle.rules.specs.meaning.Runs.{after}

@@ -57,13 +57,6 @@ pub enum Refusal {
     NoGroup = 17,
 }
 
-// What an operation answers: 0 or the number of its refusal, and its other result, which is 0 on a refusal.
-#[derive(Clone, Copy)]
-pub struct Answer {
-    pub refusal: u32,
-    pub value: u64,
-}
-
 // The sizes of a run, named at each call: the number of sites, and how many entries a table has room for.
 #[derive(Clone, Copy)]
 pub struct Run {
@@ -137,13 +130,6 @@ pub struct Sight {
     pub named: Parcel,
     pub count: usize,
     pub books: Seen,
-}
-
-// What the lag query answers: 0 or the number of its refusal, and the lag, which is 0 on a refusal.
-#[derive(Clone, Copy)]
-pub struct Lag {
-    pub refusal: u32,
-    pub lag: i32,
 }
 
 // The eight steps of a run.

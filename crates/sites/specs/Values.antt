@@ -2,7 +2,7 @@
 -- Assumes nothing.
 use Rattle.std.specs.Prelude.{ℕ, cond, List, length, replicate, eqb, pos}
 use Rattle.rules.specs.declared.Run.{Run}
-use Rattle.rules.specs.declared.Lag.{Lag}
+use Rattle.rules.specs.meaning.Lags.{Lag}
 use Rattle.rules.specs.meaning.Operations.{unless_refused}
 use Rattle.rules.specs.meaning.Runs.{fresh_refusal}
 

@@ -11,7 +11,7 @@ use lib.ListN.{length, get_or, set}
 use lib.Dec.{leb, ltb}
 use borrow.Author.Tests.{lt-ltb, le-ltb, le-leb, lt-leb}
 use Rattle.std.specs.Prelude.{Some, None}
-use Rattle.rules.specs.declared.Answer.{Answer}
+use Rattle.rules.specs.meaning.Operations.{Answer}
 use Rattle.rules.specs.meaning.Lengths.{M, after_remove}
 use Rattle.rules.proofs.laws.Lengths.{remove_none, remove_rises}
 use Rattle.rules.specs.meaning.Table.{SoundTable, capacity, length_at, length_of, held, found_of, raised, held_with}

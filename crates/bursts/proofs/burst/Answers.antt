@@ -1,7 +1,7 @@
 -- The nine callees' contracts, put together by value: before the loop what a call that is let through has; in each turn one ask more.
 use Rattle.std.proofs.Common.{ℕ, ◌≡◌, ◌≤◌, ◌<◌, ◌+◌, ◌-◌, ◌*◌, ◌/◌, Bool, true, false, cond, List, length, set, eqb, eqb-true, arith, refl, sym, ap, subst, ◌∙◌}
 use lib.ListN.{length-set}
-use Rattle.rules.specs.declared.Answer.{Answer}
+use Rattle.rules.specs.meaning.Operations.{Answer}
 use Rattle.rules.specs.declared.Run.{Run}
 use Rattle.rules.specs.meaning.Acts.{Acted}
 use Rattle.rules.specs.meaning.Calls.{named_answer, named_after}

@@ -2,7 +2,7 @@
 -- stand; and, below them, what a table is and is not. A reader can add a row and see.
 -- Assumes nothing.
 use Rattle.std.specs.Prelude.{ℕ, Bool, true, false, ◌&&◌, not, ◌≡◌, refl, List, [], ◌∷◌, ◌++◌, replicate, eqb, ltb, Option, Some, None}
-use Rattle.rules.specs.declared.Answer.{Answer}
+use Rattle.rules.specs.meaning.Operations.{Answer}
 use Rattle.rules.specs.meaning.Lengths.{M, listed, after_add, after_remove, join}
 use Rattle.rules.specs.meaning.Table.{unused, sound_from, sound, length_of, held, shown, count_below, rank, found_of, push, with_length, raised, held_with, merged, new_ids, rises}
 use Rattle.rules.specs.declared.Run.{Run}

@@ -6,7 +6,7 @@ use Rattle.std.proofs.Common.{arith}
 use Rattle.rules.specs.declared.Run.{Run}
 use Rattle.rules.specs.declared.Parcel.{Parcel}
 use Rattle.rules.specs.declared.Pair.{Pair}
-use Rattle.rules.specs.declared.Lag.{Lag}
+use Rattle.rules.specs.meaning.Lags.{Lag}
 use Rattle.rules.specs.declared.Step.TheVariants.{Add, Remove, Query, Send, Deliver, Again}
 use Rattle.rules.specs.meaning.Lengths.{M, listed, after_add, after_remove}
 use Rattle.rules.specs.meaning.Table.{unused, sound_from, length_of, held, push, with_length, raised, held_with}

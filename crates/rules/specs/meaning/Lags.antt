@@ -1,14 +1,14 @@
 -- The lag query: how far the newest serial heard on a link is from the last one sent there. It writes nothing.
 -- Assumes nothing.
-use Rattle.std.specs.Prelude.{ℕ, zero, suc, Bool, ◌||◌, not, List, [], ◌∷◌, ◌++◌, eqb, pos}
+use Rattle.std.specs.Prelude.{ℕ, zero, suc, Bool, ◌||◌, not, List, [], ◌∷◌, ◌++◌, eqb, ℤ, pos, Result}
 use Rattle.rules.specs.declared.Run.{Run}
 use Rattle.rules.specs.declared.Pair.{Pair}
 use Rattle.rules.specs.declared.Sight.{Sight}
-use Rattle.rules.specs.declared.Lag.{Lag}
+use Rattle.rules.specs.declared.Refusal.{Refusal}
 use Rattle.rules.specs.meaning.Serials.{serial_before, is_ordered, lag_of}
 use Rattle.rules.specs.meaning.Parcels.{no_parcel}
 use Rattle.rules.specs.meaning.Links.{link_between, stands}
-use Rattle.rules.specs.meaning.Refusals.{Test, ◌when◌, first_given}
+use Rattle.rules.specs.meaning.Refusals.{Test, ◌when◌, first_given, number_in, value_in}
 use Rattle.rules.specs.meaning.States.{State, sight_with}
 use Rattle.rules.specs.meaning.Steps.{outside}
 use Rattle.rules.specs.meaning.Runs.{judge_tests}
@@ -28,6 +28,14 @@ lag_undefined p = not (is_ordered p.heard (last_sent p))
 -- "15 .. on a query after 1 to 4"; "16, on a query only and before 15"
 abbrev pub lag_tests : Run → Pair → ℕ → ℕ → List Test
 lag_tests run p from to = (3 when (outside run from || outside run to)) ∷ (4 when eqb from to) ∷ (16 when silent p) ∷ (15 when lag_undefined p) ∷ []
+
+-- what the lag query answers: 0 or the number of its refusal, and the lag, which is 0 on a refusal
+pub record Lag : Type 0 where
+  pub refusal : ℕ
+  pub lag : ℤ
+
+abbrev pub as_lag : Result ℤ Refusal → Lag
+as_lag r = record { refusal = number_in r; lag = value_in (pos 0) r }
 
 -- "gives the lag as a signed number, the newest heard minus the last sent"
 abbrev pub lag_given : ℕ → Pair → Lag

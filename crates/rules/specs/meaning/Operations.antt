@@ -1,7 +1,8 @@
 -- What each operation on one site's table answers, and what it makes of the table.
 -- Assumes nothing.
-use Rattle.std.specs.Prelude.{ℕ, zero, suc, Bool, cond, List, ltb}
-use Rattle.rules.specs.declared.Answer.{Answer}
+use Rattle.std.specs.Prelude.{ℕ, zero, suc, Bool, cond, List, ltb, Result}
+use Rattle.rules.specs.declared.Refusal.{Refusal}
+use Rattle.rules.specs.meaning.Refusals.{number_in, value_in}
 use Rattle.rules.specs.meaning.Lengths.{after_add, after_remove, join, runs_out}
 use Rattle.rules.specs.meaning.Table.{capacity, length_of, raised, held_with, merged, held_merged, rises}
 
@@ -17,6 +18,15 @@ out_of_lengths = 7
 -- "the step needs more entries than C at the site that gains"
 abbrev pub out_of_room : ℕ
 out_of_room = 8
+
+-- ---- what an operation answers: 0 or the number of its refusal, and its other result, which is 0 on a refusal
+pub record Answer : Type 0 where
+  pub refusal : ℕ
+  pub value : ℕ
+
+-- what a call that gives a number or an error answers
+abbrev pub as_answer : Result ℕ Refusal → Answer
+as_answer r = record { refusal = number_in r; value = value_in 0 r }
 
 -- ---- "A refused step returns its number with 0 as the other result and writes nothing"
 

@@ -3,7 +3,7 @@ use mathlib.Core.Path.{sym, ap, ◌∙◌}
 use lib.IntN.{ℤ}
 use mir.Syntax.{w32}
 use mir.ValLaws.{to_z-of_z}
-use Rattle.rules.specs.declared.Lag.{Lag}
+use Rattle.rules.specs.meaning.Lags.{Lag}
 use Rattle.rules.specs.meaning.Parcels.{no_parcel}
 use Rattle.judge.specs.Judged.{seen_as}
 use Rattle.sites.specs.Values.{refused_lag}

@@ -2,7 +2,7 @@
 use Prim.Native.Nat.{◌<◌, ◌-◌}
 use native.Mathlib.Omega.{arith}
 use mathlib.Core.Path.{◌≡◌, ap, ◌∙◌}
-use Rattle.rules.specs.declared.Answer.{Answer}
+use Rattle.rules.specs.meaning.Operations.{Answer}
 use Rattle.rules.specs.meaning.Operations.{merge_answer, merge_table}
 use Rattle.rules.specs.meaning.States.{width, table_at, with_table}
 use Rattle.merging.specs.Walks.{part_at}

@@ -3,7 +3,7 @@ use Prim.Native.Nat.{ℕ, ◌≤◌, ◌<◌}
 use mathlib.Core.Path.{ap, ◌∙◌}
 use mathlib.Core.List.{List}
 use lib.ListN.{length}
-use Rattle.rules.specs.declared.Answer.{Answer}
+use Rattle.rules.specs.meaning.Operations.{Answer}
 use Rattle.rules.specs.meaning.Operations.{add_answer, add_table}
 use Rattle.steps.specs.Verdicts.{table_verdict}
 use Rattle.steps.proofs.Tables.{part_end, site_sound, part_is, told_of, put_of, refused_verdict_law, refused_words}
