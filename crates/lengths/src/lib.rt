@@ -3,9 +3,9 @@
 
 ghost use Rattle.std.specs.Prelude.{◌≡◌};
 ghost use Rattle.rules.specs.meaning.Lengths.{M, listed, after_add, join};
-ghost use Rattle.rules.specs.meaning.Operations.{removed_length};
+ghost use Rattle.rules.specs.meaning.Operations.{as_answer, removed_length};
 
-use rules::{Answer, M};
+use rules::{M, Refusal};
 
 // Whether an id of this length is listed.
 pub fn listed(length: u64) -> bool
@@ -22,30 +22,14 @@ pub fn after_add(length: u64) -> u64
 }
 
 // The length after a remove, refused where that is above the largest.
-pub fn after_remove(length: u64) -> Answer
-    ensures { result ≡ removed_length M length }
+pub fn after_remove(length: u64) -> Result<u64, Refusal>
+    ensures { as_answer result ≡ removed_length M length }
 {
-    if length % 2 == 1 {
-        if M <= length {
-            return Answer {
-                refusal: 7,
-                value: 0,
-            };
-        }
-        return Answer {
-            refusal: 0,
-            value: length + 1,
-        };
-    }
-    if M < length {
-        return Answer {
-            refusal: 7,
-            value: 0,
-        };
-    }
-    Answer {
-        refusal: 0,
-        value: length,
+    let after = length.saturating_add(length % 2);
+    if M < after {
+        Err(Refusal::LengthsOut)
+    } else {
+        Ok(after)
     }
 }
 
