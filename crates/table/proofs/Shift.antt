@@ -3,11 +3,11 @@
 use Prim.Native.Nat.{ℕ, suc, ◌+◌, ◌*◌, ◌-◌, ◌≤◌, ◌<◌}
 use native.Mathlib.Nat.{le_refl, eq-or-lt_of_le}
 use native.Mathlib.Omega.{arith}
-use mathlib.Core.Path.{◌≡◌, refl, sym, ◌∙◌}
+use mathlib.Core.Path.{◌≡◌, sym, ◌∙◌}
 use mathlib.Core.Logic.{⊎_elim}
 use mathlib.Core.List.{List, [], ◌++◌, append-nil}
-use lib.ListN.{length, get_or, set, take, drop, length-set, length-drop, length-append, get_or-append}
-use lib.Seq.{get_or-set_same, get_or-set_other, ext_get_or, length-take-le, take_all, drop-drop, drop-length, get_or-append-add, get_or-take, get_or-drop}
+use lib.ListN.{length, get_or, take, drop, length-drop, length-append, get_or-append}
+use lib.Seq.{ext_get_or, length-take-le, take_all, drop-drop, drop-length, get_or-append-add, get_or-take, get_or-drop}
 use Rattle.rules.proofs.laws.table.Update.{raised_length}
 use Rattle.rules.proofs.laws.table.Order.{lt_or_le}
 use Rattle.rules.specs.meaning.Table.{id_at, length_at, length_of, rank, raised}

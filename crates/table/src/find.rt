@@ -10,11 +10,7 @@ fn halvings(n: usize) -> usize
     ensures result_bound { 2 ^ result ≤ n }
     ensures n_bound { n ≤ 2 * 2 ^ result }
 {
-    if n == 1 {
-        0
-    } else {
-        (n - 1).ilog2() as usize
-    }
+    if n == 1 { 0 } else { (n - 1).ilog2() as usize }
 }
 
 // Whether a place is in use with an id no greater than the one sought.

@@ -1,5 +1,5 @@
 -- The words from the id's place on are moved, and its entry written there (`inserted`).
-use Rattle.std.proofs.Common.{◌≡◌, ◌∙◌, ℕ, ◌+◌, ◌*◌, ◌-◌, ◌≤◌, List, length, length-take, length-drop, arith}
+use Rattle.std.proofs.Common.{ℕ, ◌+◌, ◌*◌, ◌-◌, ◌≤◌, List, length, arith}
 use borrow.Rule.Slice.PartMut.{put_mid}
 use Rattle.rules.specs.meaning.Lengths.{M}
 use Rattle.rules.specs.meaning.Table.{SoundTable, held}
