@@ -2,12 +2,12 @@
 ghost use Rattle.std.specs.Prelude.{◌≡◌, ◌+◌, ◌*◌, ◌≤◌, length as size};
 ghost use Rattle.rules.specs.meaning.Lengths.{M, join};
 ghost use Rattle.rules.specs.meaning.Table.{SoundTable, held, length_of, held_with, raised};
-ghost use Rattle.rules.specs.meaning.Operations.{crowded, raise_answer, raise_table, add_answer, add_table, absorb_answer, absorb_table, remove_answer, remove_table};
+ghost use Rattle.rules.specs.meaning.Operations.{as_answer, crowded, raise_answer, raise_table, add_answer, add_table, absorb_answer, absorb_table, remove_answer, remove_table};
 
 use crate::find::{length_word, rank};
 use crate::judge::held;
 use lengths::{after_add, after_remove, join};
-use rules::Answer;
+use rules::Refusal;
 
 // An id without an entry is given one: the entries with larger ids move on by one place. They are moved within the part that begins with them: so the compiler
 // makes one call of memmove, which it does not for words that begin inside of what it is given.
@@ -25,30 +25,24 @@ fn insert(table: &mut [u64], used: usize, id: u64, length: u64)
 }
 
 // The same where there is room, and refused where every place is used.
-fn enter(table: &mut [u64], id: u64, length: u64) -> Answer
+fn enter(table: &mut [u64], id: u64, length: u64) -> Result<u64, Refusal>
     requires sound_table { SoundTable table.old }
     requires id_value { (length_of table.old id ≡ 0) × (1 ≤ length) }
-    ensures value { result ≡ raise_answer table.old id length }
+    ensures value { as_answer result ≡ raise_answer table.old id length }
     ensures table_after { table.new ≡ raise_table table.old id length }
 {
     let used = held(table);
     if table.len() / 2 <= used {
-        return Answer {
-            refusal: 8,
-            value: 0,
-        };
+        return Err(Refusal::NoRoom);
     }
     insert(table, used, id, length);
-    Answer {
-        refusal: 0,
-        value: length,
-    }
+    Ok(length)
 }
 
 // The id is listed: an even length rises by 1, an odd one stays. Refused only where the id is absent and every place is used.
-pub fn add(table: &mut [u64], id: u64) -> Answer
+pub fn add(table: &mut [u64], id: u64) -> Result<u64, Refusal>
     requires { SoundTable table.old }
-    ensures value { result ≡ add_answer table.old id }
+    ensures value { as_answer result ≡ add_answer table.old id }
     ensures table_after { table.new ≡ add_table table.old id }
 {
     let Some(at) = length_word(table, id) else {
@@ -56,50 +50,36 @@ pub fn add(table: &mut [u64], id: u64) -> Answer
     };
     let after = after_add(table[at]);
     table[at] = after;
-    Answer {
-        refusal: 0,
-        value: after,
-    }
+    Ok(after)
 }
 
 // The id is no longer listed: an odd length rises by 1, an even one stays, and an id never held gets no entry.
-pub fn remove(table: &mut [u64], id: u64) -> Answer
+pub fn remove(table: &mut [u64], id: u64) -> Result<u64, Refusal>
     requires { SoundTable table.old }
-    ensures value { result ≡ remove_answer M table.old id }
+    ensures value { as_answer result ≡ remove_answer M table.old id }
     ensures table_after { table.new ≡ remove_table M table.old id }
 {
     let Some(at) = length_word(table, id) else {
-        return Answer {
-            refusal: 0,
-            value: 0,
-        };
+        return Ok(0);
     };
-    let after = after_remove(table[at]);
-    if after.refusal == 0 {
-        table[at] = after.value;
-    }
-    after
+    let unlisted = after_remove(table[at])?;
+    table[at] = unlisted;
+    Ok(unlisted)
 }
 
 // One entry is joined in, as a delivered update is. Refused only where it needs a new place and every place is used.
-pub fn absorb(table: &mut [u64], id: u64, length: u64) -> Answer
+pub fn absorb(table: &mut [u64], id: u64, length: u64) -> Result<u64, Refusal>
     requires { SoundTable table.old }
-    ensures value { result ≡ absorb_answer table.old id length }
+    ensures value { as_answer result ≡ absorb_answer table.old id length }
     ensures table_after { table.new ≡ absorb_table table.old id length }
 {
     match length_word(table, id) {
         Some(at) => {
             let after = join(table[at], length);
             table[at] = after;
-            Answer {
-                refusal: 0,
-                value: after,
-            }
+            Ok(after)
         }
-        None if length == 0 => Answer {
-            refusal: 0,
-            value: 0,
-        },
+        None if length == 0 => Ok(0),
         None => enter(table, id, length),
     }
 }

@@ -1,7 +1,7 @@
 -- "Prove that two results which both satisfy it are equal". A contract here is an equation for the result and one for each thing lent, or a record of
 -- such equations: for each of those records, the result and the final contents that it leaves.
 -- Assumes nothing.
-use Rattle.std.specs.Prelude.{ℕ, ◌≡◌, List, [], ◌∷◌, get_or, Result, Ok, Err}
+use Rattle.std.specs.Prelude.{ℕ, ◌≡◌, ◌≤◌, List, [], ◌∷◌, get_or, Result, Ok, Err}
 use Rattle.std.proofs.Common.{sym, ap, ◌∙◌, refl, arith}
 use Rattle.rules.specs.declared.Refusal.{Refusal}
 use Rattle.rules.specs.declared.Refusal.TheVariants.{BadSizes, Unsound, NoSite, SameSite, NoParcel, NothingToSend, LengthsOut, NoRoom, NoSlot, CountFull, NoStep, InputLong, ShortBuffer, ManyIds, NoOrder, NothingHeard, NoGroup}
@@ -118,30 +118,31 @@ named_back NoOrder = refl
 named_back NothingHeard = refl
 named_back NoGroup = refl
 
-above : (r : Refusal) → 0 ≡ number_of r → ⊥
-above BadSizes e = omega arith
-above Unsound e = omega arith
-above NoSite e = omega arith
-above SameSite e = omega arith
-above NoParcel e = omega arith
-above NothingToSend e = omega arith
-above LengthsOut e = omega arith
-above NoRoom e = omega arith
-above NoSlot e = omega arith
-above CountFull e = omega arith
-above NoStep e = omega arith
-above InputLong e = omega arith
-above ShortBuffer e = omega arith
-above ManyIds e = omega arith
-above NoOrder e = omega arith
-above NothingHeard e = omega arith
-above NoGroup e = omega arith
+-- no refusal has the number 0, which is none
+pub numbered : (r : Refusal) → 1 ≤ number_of r
+numbered BadSizes = omega arith
+numbered Unsound = omega arith
+numbered NoSite = omega arith
+numbered SameSite = omega arith
+numbered NoParcel = omega arith
+numbered NothingToSend = omega arith
+numbered LengthsOut = omega arith
+numbered NoRoom = omega arith
+numbered NoSlot = omega arith
+numbered CountFull = omega arith
+numbered NoStep = omega arith
+numbered InputLong = omega arith
+numbered ShortBuffer = omega arith
+numbered ManyIds = omega arith
+numbered NoOrder = omega arith
+numbered NothingHeard = omega arith
+numbered NoGroup = omega arith
 
 pub numbers_apart : (r s : Refusal) → number_of r ≡ number_of s → r ≡ s
 numbers_apart r s e = sym (named_back r) ∙ ap named e ∙ named_back s
 
 pub answer_determined : {A : Type 0} (none : A) (r r' : Result A Refusal) → number_in r ≡ number_in r' → value_in none r ≡ value_in none r' → r ≡ r'
 answer_determined none (Ok x) (Ok y) p q = ap Ok q
-answer_determined none (Ok x) (Err s) p q = absurd (above s p)
-answer_determined none (Err r) (Ok y) p q = absurd (above r (sym p))
+answer_determined none (Ok x) (Err s) p q = absurd (let k = numbered s in omega arith)
+answer_determined none (Err r) (Ok y) p q = absurd (let k = numbered r in omega arith)
 answer_determined none (Err r) (Err s) p q = ap Err (numbers_apart r s p)
