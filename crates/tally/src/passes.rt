@@ -16,7 +16,7 @@ pub(crate) struct Passed {
 pub(crate) fn rise(own: u64, other: u64) -> u64
     ensures { (result ≡ cond (ltb own other) 1 0) × (result ≤ 1) }
 {
-    if own < other { 1 } else { 0 }
+    u64::from(own < other)
 }
 
 // The smaller id is passed, a common one in both tables. Nobody can foresee which it is, so no branch depends on it: the tests' bits are added.
@@ -30,11 +30,11 @@ pub(crate) fn pass(mine: u64, after: u64, kept: u64, id: u64, next: u64, length:
     let other_on = id <= mine;
     let rises = on & other_on & (kept < length);
     Passed {
-        own: on as usize,
-        others: other_on as usize,
+        own: usize::from(on),
+        others: usize::from(other_on),
         mine: if on { after } else { mine },
         id: if other_on { next } else { id },
-        rises: rises as u64,
+        rises: u64::from(rises),
     }
 }
 
