@@ -38,14 +38,14 @@ pub(crate) fn pass(mine: u64, after: u64, kept: u64, id: u64, next: u64, length:
     }
 }
 
-// Whether four ids from a place on are those of four others.
+// Whether four ids from a place on are those of four others. All four are compared, with no early exit.
 pub fn alike(table: &[u64], entries: &[u64], own: usize, others: usize) -> bool
     requires { (2 * (own + 4) ≤ size table.now) × (2 * (others + 4) ≤ size entries.now) }
     ensures { result ≡ (eqb (id_at table.now own) (id_at entries.now others) && eqb (id_at table.now (own + 1)) (id_at entries.now (others + 1))) && (eqb (id_at table.now (own + 2)) (id_at entries.now (others + 2)) && eqb (id_at table.now (own + 3)) (id_at entries.now (others + 3))) }
 {
-    let first = (table[2 * own] == entries[2 * others])
-        & (table[2 * (own + 1)] == entries[2 * (others + 1)]);
-    let last = (table[2 * (own + 2)] == entries[2 * (others + 2)])
-        & (table[2 * (own + 3)] == entries[2 * (others + 3)]);
-    first & last
+    let mut same = true;
+    for k in 0..4 {
+        same &= table[2 * (own + k)] == entries[2 * (others + k)];
+    }
+    same
 }
