@@ -17,5 +17,5 @@ loop-preserved g c =
       own = omega arith;
       others = omega arith;
       place = omega arith;
-      filling = rw (c.put.ensures, e.0, e.1, e.2) (common v.filling (left.place - 1) (omega arith) _ _ (omega arith) (omega arith) (rw (i, j) at (c.requires.2 k (omega arith))) refl (rw (e.0, e.1) at c.join-length.ensures));
+      filling = rw (c.put.ensures, e.0, e.1, e.2) (common v.filling (left.place - 1) (omega arith) _ _ (omega arith) (omega arith) (rw (i, j) at (c.requires.1.1 k (omega arith))) refl (rw (e.0, e.1) at c.join-length.ensures));
     }
