@@ -19,6 +19,7 @@ pub struct Tally {
 }
 
 // How far the walk has come: the entries passed in the table and in the source, what those passed come to, and whether a stretch of equal ids may begin.
+// No `Tally`, whose first two fields say what there is and not what is passed.
 #[derive(Clone, Copy)]
 struct At {
     own: usize,
@@ -49,34 +50,36 @@ impl Both<'_> {
         ensures walk_2 { Walk self.entry.table.now self.entry.entries.now result.held result.rises result.own result.others }
         ensures own_le_own { (at.own ≤ result.own) × (at.others ≤ result.others) × (at.own + at.others < result.own + result.others) }
     {
-        let At { own, others, held, rises, .. } = at;
-        let id = self.entries[2 * others];
-        if own < self.used {
-            let mine = self.table[2 * own];
+        let id = self.entries[2 * at.others];
+        if at.own < self.used {
+            let mine = self.table[2 * at.own];
             if mine < id {
                 return At {
-                    own: own + 1,
+                    own: at.own + 1,
                     abreast: false,
                     ..at
                 };
             }
             if mine == id {
-                let more = rise(self.table[2 * own + 1], self.entries[2 * others + 1]);
+                let more = rise(
+                    self.table[2 * at.own + 1],
+                    self.entries[2 * at.others + 1],
+                );
                 return At {
-                    own: own + 1,
-                    others: others + 1,
-                    rises: rises + more,
+                    own: at.own + 1,
+                    others: at.others + 1,
+                    rises: at.rises + more,
                     abreast: false,
                     ..at
                 };
             }
         }
         At {
-            own,
-            others: others + 1,
-            held: held + 1,
-            rises: rises + 1,
+            others: at.others + 1,
+            held: at.held + 1,
+            rises: at.rises + 1,
             abreast: false,
+            ..at
         }
     }
 
@@ -113,30 +116,30 @@ impl Both<'_> {
         ensures walk_2 { Walk self.entry.table.now self.entry.entries.now result.held result.rises result.own result.others }
         ensures own_le_own { (at.own ≤ result.own) × (at.others ≤ result.others) × (at.own + at.others < result.own + result.others) }
     {
-        let At { mut own, mut others, mut rises, .. } = at;
-        let mut mine = self.table[2 * own];
-        let mut id = self.entries[2 * others];
-        let mut abreast = true;
+        let mut to = At {
+            abreast: true,
+            ..at
+        };
+        let mut mine = self.table[2 * at.own];
+        let mut id = self.entries[2 * at.others];
         for _ in 0..8usize {
-            let after = self.table[2 * own + 2];
-            let next = self.entries[2 * others + 2];
-            abreast &= after == next;
-            let kept = self.table[2 * own + 1];
-            let length = self.entries[2 * others + 1];
+            let after = self.table[2 * to.own + 2];
+            let next = self.entries[2 * to.others + 2];
+            to.abreast &= after == next;
+            let kept = self.table[2 * to.own + 1];
+            let length = self.entries[2 * to.others + 1];
             let now = pass(mine, after, kept, id, next, length);
-            own += now.own;
-            others += now.others;
-            rises += now.rises;
+            to.own += now.own;
+            to.others += now.others;
+            to.rises += now.rises;
             mine = now.mine;
             id = now.id;
         }
-        let fresh = 8 - (own - at.own);
+        let fresh = 8 - (to.own - at.own);
         At {
-            own,
-            others,
             held: at.held + fresh,
-            rises: rises + fresh as u64,
-            abreast,
+            rises: to.rises + fresh as u64,
+            ..to
         }
     }
 

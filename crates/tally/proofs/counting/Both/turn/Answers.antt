@@ -4,7 +4,7 @@ use Rattle.rules.specs.meaning.Lengths.{M}
 use Rattle.rules.proofs.laws.table.Places.{laid_of}
 use Rattle.tally.proofs.Joint.{walk_own, walk_both, walk_new}
 use Rattle.tally.proofs.counting.Both.turn.Goals as goal
-use Rattle.tally.proofs.counting.Both.turn.Goals.{then-own-self+else-mine-id+else-mine-id-2, else-own-self}
+use Rattle.tally.proofs.counting.Both.turn.Goals.{then-at-self+else-mine-id+else-mine-id-2, else-at-self}
 
 pub returns-then-mine-id-clause-walk_2 : goal.returns-then-mine-id-clause-walk_2
 returns-then-mine-id-clause-walk_2 c =
@@ -21,4 +21,4 @@ pub returns-clause-walk_2 : goal.returns-clause-walk_2
 returns-clause-walk_2 c =
     let both = c.args.self in
     walk_new (laid_of M _ both.sound_table) (laid_of M _ both.sound_entries) _ _ _ _ c.requires.walk (omega arith)
-    (elim c.if-own-self.branch [ then-own-self+else-mine-id+else-mine-id-2 w ↦ (λ _. omega (arith, w)) | else-own-self w ↦ (λ h. absurd (omega (arith, w))) ])
+    (elim c.if-at-self.branch [ then-at-self+else-mine-id+else-mine-id-2 w ↦ (λ _. omega (arith, w)) | else-at-self w ↦ (λ h. absurd (omega (arith, w))) ])
