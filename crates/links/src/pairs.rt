@@ -30,12 +30,10 @@ pub fn start_pair(first: u32) -> Pair
 pub fn sent_pair(pair: Pair) -> Pair
     ensures { result ≡ sent_pair pair }
 {
-    let next = next_serial(pair.next);
     Pair {
-        next,
-        heard: pair.heard,
+        next: next_serial(pair.next),
         unsent: 0,
-        unheard: pair.unheard,
+        ..pair
     }
 }
 
@@ -43,8 +41,7 @@ pub fn sent_pair(pair: Pair) -> Pair
 fn moves_on(serial: u32, pair: Pair) -> bool
     ensures { result ≡ moves_on serial pair }
 {
-    let newer = is_newer(serial, pair.heard);
-    (pair.unheard != 0) | newer
+    pair.unheard != 0 || is_newer(serial, pair.heard)
 }
 
 // After a delivery: a serial that is not newer leaves the entry as it is.
@@ -53,10 +50,9 @@ pub fn heard_pair(serial: u32, pair: Pair) -> Pair
 {
     if moves_on(serial, pair) {
         Pair {
-            next: pair.next,
             heard: serial,
-            unsent: pair.unsent,
             unheard: 0,
+            ..pair
         }
     } else {
         pair
@@ -67,30 +63,26 @@ pub fn heard_pair(serial: u32, pair: Pair) -> Pair
 pub fn incomparable(serial: u32, pair: Pair) -> bool
     ensures { result ≡ incomparable serial pair }
 {
-    let ordered = is_ordered(serial, pair.heard);
-    (pair.unheard == 0) & !ordered
+    pair.unheard == 0 && !is_ordered(serial, pair.heard)
 }
 
 // Whether a lag is asked of a link on which nothing was sent or nothing was heard.
 pub(crate) fn silent(pair: Pair) -> bool
     ensures { result ≡ silent pair }
 {
-    (pair.unsent != 0) | (pair.unheard != 0)
+    pair.unsent != 0 || pair.unheard != 0
 }
 
 // Whether the newest heard and the last sent have no order, so that there is no lag.
 pub(crate) fn lag_undefined(pair: Pair) -> bool
     ensures { result ≡ lag_undefined pair }
 {
-    let last = serial_before(pair.next);
-    let ordered = is_ordered(pair.heard, last);
-    !ordered
+    !is_ordered(pair.heard, serial_before(pair.next))
 }
 
 // The newest heard minus the last sent. It is a number for every entry; only whoever asks knows whether it means something.
 pub fn lag_of(pair: Pair) -> i32
     ensures { result ≡ lag_of pair.heard (last_sent pair) }
 {
-    let last = serial_before(pair.next);
-    lag(pair.heard, last)
+    lag(pair.heard, serial_before(pair.next))
 }

@@ -4,30 +4,27 @@ ghost use Rattle.std.specs.Prelude.{◌≡◌};
 ghost use Rattle.rules.specs.meaning.Serials.{next_serial, serial_before, is_newer, ahead, is_ordered, lag_of};
 
 // Half of the serials. Two that are this far apart have no order.
-const HALF: u32 = 2147483648;
-
-// The largest serial, after which comes 0.
-const LARGEST: u32 = 4294967295;
+const HALF: u32 = 1 << 31;
 
 // The serial after this one.
 pub(crate) fn next_serial(n: u32) -> u32
     ensures { result ≡ next_serial n }
 {
-    std::num::wrapping_add_u32(n, 1)
+    n.wrapping_add(1)
 }
 
 // The serial before this one.
 pub(crate) fn serial_before(n: u32) -> u32
     ensures { result ≡ serial_before n }
 {
-    std::num::wrapping_sub_u32(n, 1)
+    n.wrapping_sub(1)
 }
 
 // How many serials a is ahead of b.
 fn ahead_of(a: u32, b: u32) -> u32
     ensures { result ≡ ahead a b }
 {
-    std::num::wrapping_sub_u32(a, b)
+    a.wrapping_sub(b)
 }
 
 // Whether a is greater than b: ahead of it, and by less than half.
@@ -42,8 +39,7 @@ pub(crate) fn is_newer(a: u32, b: u32) -> bool
 pub(crate) fn is_ordered(a: u32, b: u32) -> bool
     ensures { result ≡ is_ordered a b }
 {
-    let up = ahead_of(a, b);
-    up != HALF
+    ahead_of(a, b) != HALF
 }
 
 // The newest heard minus the last sent, as a signed number. From half on it is below 0, by one more than what is left up to the largest serial.
@@ -51,10 +47,5 @@ pub(crate) fn is_ordered(a: u32, b: u32) -> bool
 pub(crate) fn lag(heard: u32, last: u32) -> i32
     ensures { result ≡ lag_of heard last }
 {
-    let up = ahead_of(heard, last);
-    if up < HALF {
-        return up as i32;
-    }
-    let rest = LARGEST - up;
-    -1 - rest as i32
+    ahead_of(heard, last).cast_signed()
 }

@@ -3,7 +3,7 @@ ghost use Rattle.std.specs.Prelude.{◌≡◌, ◌<◌};
 ghost use Rattle.links.specs.Turns.{first_link, next_to, next_link};
 
 // Where a loop over the links stands: at the link of two different sites, or at the end, which is the number of sites and 0.
-#[derive(Drop)]
+#[derive(Clone, Copy)]
 pub struct Link {
     pub from: usize,
     pub to: usize,
@@ -36,11 +36,11 @@ pub fn next_link(link: Link, n: usize) -> Link
 {
     let to = next_to(link.from, link.to);
     if to < n {
-        return Link {
-            from: link.from,
-            to,
-        };
+        Link { to, ..link }
+    } else {
+        Link {
+            from: link.from + 1,
+            to: 0,
+        }
     }
-    let from = link.from + 1;
-    Link { from, to: 0 }
 }
