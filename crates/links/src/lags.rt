@@ -7,6 +7,7 @@ use crate::pairs::{lag_undefined, silent};
 use rules::{Pair, Refusal, Run};
 
 // 3, 4, 16, 15, or 0 where none is given.
+#[tactic(auto, unfolding(rules::specs::meaning::Refusals::first_given))]
 pub fn lag_refusal(run: Run, pair: Pair, from: u64, to: u64) -> u32
     ensures { result ≡ first_given (lag_tests run pair from to) }
 {

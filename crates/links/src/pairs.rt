@@ -7,7 +7,8 @@ ghost use Rattle.rules.specs.meaning.Lags.{silent, last_sent, lag_undefined};
 use crate::serial::{is_newer, is_ordered, lag, next_serial, serial_before};
 use rules::Pair;
 
-// The newest heard is 0 while its mark stands.
+// The newest heard is 0 while its mark stands. The judge asks it of every link, so there is no early exit.
+#[tactic(auto, unfolding(rules::specs::meaning::Links::pair_sound))]
 pub fn pair_sound(pair: Pair) -> bool
     ensures { result ≡ pair_sound pair }
 {
@@ -38,6 +39,7 @@ pub fn sent_pair(pair: Pair) -> Pair
 }
 
 // Whether a serial that arrives becomes the newest heard. The first one does, whatever its number.
+#[tactic(auto, unfolding(rules::specs::meaning::Links::moves_on))]
 fn moves_on(serial: u32, pair: Pair) -> bool
     ensures { result ≡ moves_on serial pair }
 {
@@ -45,6 +47,7 @@ fn moves_on(serial: u32, pair: Pair) -> bool
 }
 
 // After a delivery: a serial that is not newer leaves the entry as it is.
+#[tactic(auto, unfolding(rules::specs::meaning::Links::heard_pair))]
 pub fn heard_pair(serial: u32, pair: Pair) -> Pair
     ensures { result ≡ heard_pair serial pair }
 {
@@ -60,6 +63,7 @@ pub fn heard_pair(serial: u32, pair: Pair) -> Pair
 }
 
 // Whether a serial that arrives has no order with the newest heard. Where nothing was heard there is nothing to compare it with.
+#[tactic(auto, unfolding(rules::specs::meaning::Links::incomparable))]
 pub fn incomparable(serial: u32, pair: Pair) -> bool
     ensures { result ≡ incomparable serial pair }
 {
@@ -67,6 +71,7 @@ pub fn incomparable(serial: u32, pair: Pair) -> bool
 }
 
 // Whether a lag is asked of a link on which nothing was sent or nothing was heard.
+#[tactic(auto, unfolding(rules::specs::meaning::Lags::silent))]
 pub(crate) fn silent(pair: Pair) -> bool
     ensures { result ≡ silent pair }
 {
@@ -74,6 +79,7 @@ pub(crate) fn silent(pair: Pair) -> bool
 }
 
 // Whether the newest heard and the last sent have no order, so that there is no lag.
+#[tactic(auto, unfolding(rules::specs::meaning::Lags::lag_undefined))]
 pub(crate) fn lag_undefined(pair: Pair) -> bool
     ensures { result ≡ lag_undefined pair }
 {

@@ -20,6 +20,7 @@ pub fn sites_to_start(wanted: bool, sites: u64) -> usize
 
 // The place of the entry of one site to another. Where they are no link of the run it is past the last entry, so that whoever reads or stores
 // there need not ask.
+#[tactic(auto, unfolding(rules::specs::meaning::Links::link_between))]
 pub fn link_between(sites: u64, from: u64, to: u64) -> usize
     ensures { result ≡ link_between sites from to }
 {

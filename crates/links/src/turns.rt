@@ -10,6 +10,7 @@ pub struct Link {
 }
 
 // The first link of n sites.
+#[tactic(auto, unfolding(crate::specs::Turns::first_link))]
 pub fn first_link(n: usize) -> Link
     ensures { result ≡ first_link n }
 {
@@ -21,6 +22,7 @@ pub fn first_link(n: usize) -> Link
 }
 
 // The next site that is not the sender itself.
+#[tactic(auto, unfolding(crate::specs::Turns::next_to))]
 fn next_to(from: usize, to: usize) -> usize
     requires { to < 16 }
     ensures { result ≡ next_to from to }
@@ -30,6 +32,7 @@ fn next_to(from: usize, to: usize) -> usize
 }
 
 // The link after this one: to the next site, or else the first one of the next sender.
+#[tactic(auto, unfolding(crate::specs::Turns::next_link))]
 pub fn next_link(link: Link, n: usize) -> Link
     requires { (link.from < 16) × (link.to < 16) }
     ensures { result ≡ next_link n link }
