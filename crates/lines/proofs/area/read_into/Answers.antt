@@ -7,12 +7,8 @@ use Rattle.lines.proofs.area.read_into.Goals as goal
 pub returns-then-area-lt32 : goal.returns-then-area-lt32
 returns-then-area-lt32 c = area_short _ _ (omega arith)
 
-pub returns-in_default : goal.returns-in_default
-returns-in_default c = area_none _ _ (omega arith) (sym c.in_default.is ∙ c.read_line.ensures)
+pub returns-in_err-numbers : goal.returns-in_err-numbers
+returns-in_err-numbers c = let e = c.in_err-numbers.ensures in let f = c.from_residual.ensures in ?
 
 pub returns : goal.returns
-returns c = area_laid _ _ _ _ _ _ _ _ _ _ (omega arith) (sym c.in-Numbers.is ∙ c.read_line.ensures)
-    c.write_word.ensures
-    c.write_word-2.ensures
-    c.write_word-3.ensures
-    c.write_word-4.ensures
+returns c = let e = c.in_ok-numbers.ensures in ?
