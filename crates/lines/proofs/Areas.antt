@@ -1,9 +1,8 @@
 -- Numbers in eight bytes each, and the area of 32 bytes that they make.
 use mathlib.Core.Path.{◌≡◌}
 use mathlib.Core.List.{List}
-use Prim.Native.Nat.{ℕ, suc, ◌+◌, ◌/◌, ◌%◌, ◌≤◌, ◌<◌}
+use Prim.Native.Nat.{ℕ, ◌≤◌, ◌<◌}
 use native.Mathlib.Omega.{arith}
-use native.Mathlib.Numerals.{add-one}
 use borrow.Author.Tests.{lt-ltb, le-ltb}
 use borrow.Rule.Slice.PartMut.{put_mid}
 use lib.ListN.{length}
@@ -14,7 +13,6 @@ use Rattle.std.proofs.Math.Nat.{div-div-eq-div-mul}
 use Rattle.rules.specs.meaning.Lines.{numbers_of, four}
 use Rattle.rules.specs.meaning.Refusals.{first_given}
 use Rattle.rules.specs.meaning.Put.{put}
-use Rattle.rules.proofs.laws.Put.{put_nil, put_cons}
 use Rattle.rules.specs.meaning.Area.{little, word, laid, is_no_line, read_refusal, area_after}
 use Rattle.rules.proofs.laws.line.Area.{little_length}
 use Rattle.lines.proofs.Writings.{put_four}

@@ -7,6 +7,9 @@ ghost use Rattle.rules.specs.meaning.Refusals.{number_in};
 use crate::read::read_line;
 use rules::Refusal;
 
+// How many bytes the four numbers take.
+const AREA_BYTES: usize = 32;
+
 // Writes a number in eight bytes at a place, the lowest first.
 fn write_word(out: &mut [u8], place: usize, n: u64)
     requires { place + 8 ≤ length out.old }
@@ -20,7 +23,7 @@ fn write_word(out: &mut [u8], place: usize, n: u64)
 pub fn read_into(line: &[u8], area: &mut [u8]) -> Result<(), Refusal>
     ensures { (number_in result ≡ read_refusal line.now area.old) × (area.new ≡ area_after line.now area.old) }
 {
-    if area.len() < 32 {
+    if area.len() < AREA_BYTES {
         return Err(Refusal::ShortBuffer);
     }
     let numbers = read_line(line).ok_or(Refusal::NoStep)?;
