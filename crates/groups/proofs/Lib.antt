@@ -4,4 +4,3 @@ pub mod Fillings
 pub mod Gaps
 pub mod Groupings
 pub mod Judgings
-pub mod Layings
