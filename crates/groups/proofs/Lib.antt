@@ -4,3 +4,5 @@ pub mod Fillings
 pub mod Gaps
 pub mod Groupings
 pub mod Judgings
+pub mod Layings
+pub mod Pairs
