@@ -2,19 +2,18 @@
 use mathlib.Core.Path.{◌≡◌, sym, ap, ◌∙◌}
 use mathlib.Core.Bool.{true, false}
 use mathlib.Core.List.{List, ◌++◌}
-use Prim.Native.Nat.{ℕ, suc, ◌+◌, ◌*◌, ◌/◌, ◌≤◌, ◌<◌}
+use Prim.Native.Nat.{ℕ, ◌+◌, ◌*◌, ◌/◌, ◌≤◌, ◌<◌}
 use native.Mathlib.Omega.{arith}
-use native.Mathlib.Numerals.{add-one}
 use borrow.Author.Tests.{lt-ltb, le-ltb}
-use lib.ListN.{length, take, drop, set, get_or, drop_of_length-le}
+use lib.ListN.{length, take, drop}
 use lib.Seq.{drop-cons, get_or-take, length-take-le}
 use Rattle.rules.specs.meaning.Refusals.{first_given}
 use Rattle.rules.specs.meaning.Put.{put}
-use Rattle.rules.specs.meaning.Groups.{is_group, group_bytes, group, no_group, group_of, entries_in, forms_none, write_refusal, read_refusal, bytes_written, entries_read, as_grouped, Written, Entered}
+use Rattle.rules.specs.meaning.Groups.{is_group, group_bytes, group_of, entries_in, forms_none, write_refusal, read_refusal, bytes_written, entries_read, as_grouped, Written, Entered}
 use Rattle.std.specs.Prelude.{Some, None, Ok, Err}
 use Rattle.rules.specs.declared.Refusal.TheVariants.{NoGroup, ShortBuffer}
 use Rattle.groups.specs.Decoding.{Decodes}
-use Rattle.rules.proofs.laws.Put.{put_nil, put_cons}
+use Rattle.rules.proofs.laws.Put.{put_nil}
 
 -- ---- the writer
 module _ (es out : List ℕ) where

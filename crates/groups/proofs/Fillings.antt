@@ -7,7 +7,7 @@ use native.Mathlib.Numerals.{add-one}
 use lib.ListN.{length, take, drop, set, length-set, drop_of_length-le}
 use lib.Seq.{take-suc-set, drop-cons}
 use Rattle.rules.specs.meaning.Groups.{most_entries, Group, group, no_group, with_entry, entries_from}
-use Rattle.std.specs.Prelude.{Option, Some, None}
+use Rattle.std.specs.Prelude.{Some, None}
 use Rattle.groups.specs.declared.entry.Entry.{Entry}
 use Rattle.groups.specs.Decoding.{Enters, Decodes}
 

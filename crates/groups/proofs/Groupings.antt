@@ -1,17 +1,16 @@
 -- The group of some bytes, by its count.
-use mathlib.Core.Path.{◌≡◌, refl, sym, ap, ◌∙◌}
-use mathlib.Core.Bool.{Bool, true, false, false≢true}
+use mathlib.Core.Path.{◌≡◌, refl, ap, ◌∙◌}
 use mathlib.Core.List.{List, [], ◌∷◌, ◌++◌}
-use Prim.Native.Nat.{ℕ, ◌*◌, ◌^◌, ◌≤◌, ◌<◌}
+use Prim.Native.Nat.{ℕ, ◌^◌, ◌≤◌, ◌<◌}
 use native.Mathlib.Omega.{arith}
 use borrow.Author.Tests.{le-leb, lt-leb, lt-ltb}
 use lib.Dec.{leb}
-use Rattle.std.specs.Prelude.{Option, Some, None}
-use lib.ListN.{length, get_or, take, drop}
+use Rattle.std.specs.Prelude.{None}
+use lib.ListN.{length, get_or, drop}
 use lib.Seq.{drop-cons}
 use Rattle.rules.specs.meaning.Text.{Front, front, refused}
 use Rattle.rules.specs.meaning.Leb.{leb_value, of64, read_leb}
-use Rattle.rules.specs.meaning.Groups.{Group, group, no_group, most_entries, onward, group_if, entries_from, group_of}
+use Rattle.rules.specs.meaning.Groups.{no_group, most_entries, onward, group_if, entries_from, group_of}
 use Rattle.rules.proofs.laws.group.Leb.{leb_small, read_leb_law}
 use Rattle.rules.proofs.laws.line.Numbers.{below}
 use Rattle.groups.specs.Decoding.{Decodes}

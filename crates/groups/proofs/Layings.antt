@@ -1,19 +1,20 @@
 -- A group laid entry by entry: how many bytes are left to be laid, and what the buffer is with them.
 use mathlib.Core.Path.{◌≡◌, refl, sym, ap, ◌∙◌}
-use mathlib.Core.List.{List, [], ◌∷◌, ◌++◌}
+use mathlib.Core.List.{List, ◌∷◌, ◌++◌}
 use Prim.Native.Nat.{ℕ, zero, suc, ◌+◌, ◌-◌, ◌*◌, ◌/◌, ◌≤◌, ◌<◌}
 use native.Mathlib.Omega.{arith}
 use native.Mathlib.Numerals.{add-one}
 use lib.Dec.{leb}
-use lib.ListN.{length, get_or, drop, length-append, length-drop, drop_of_length-le}
-use lib.Seq.{drop-drop}
+use borrow.Author.Tests.{le-leb}
+use mathlib.Core.Bool.{true}
+use lib.ListN.{length, drop, length-append, drop_of_length-le}
 use Rattle.std.specs.Simd.{first_chunks}
 use Rattle.rules.specs.meaning.Leb.{leb128}
 use Rattle.rules.specs.meaning.Groups.{most_entries, rising_from, is_group, fields_from, group_bytes}
 use Rattle.rules.specs.meaning.Put.{put}
 use Rattle.rules.proofs.laws.Put.{put_nil, put_put}
 use Rattle.rules.proofs.laws.table.View.{parts}
-use Rattle.rules.proofs.laws.group.Groups.{Rising, done, entry, see_rising, group_full}
+use Rattle.rules.proofs.laws.group.Groups.{Rising, done, entry, see_rising, group_full, group_few, group_by_words}
 use Rattle.rules.proofs.laws.group.Leb.{leb_some}
 use Rattle.groups.specs.Writing.{IsGroup, Led}
 use Rattle.groups.proofs.Pairs.{id_at, length_at, pair_at, pairs_many}
@@ -131,5 +132,11 @@ laid_group es out₀ out place h ep eo =
 pub count_first : (es : List ℕ) → length (leb128 (length es / 2)) ≤ length (group_bytes es)
 unfolding group_bytes
 count_first es = omega (arith, length-append (leb128 (length es / 2)) (fields_from 0 es))
+
+-- ---- a room that every group of so many words fits
+pub fits_all : (es : List ℕ) (room : ℕ) → IsGroup es → 7 * length es + 2 ≤ room → leb (length (group_bytes es)) room ≡ true
+fits_all es room h r = le-leb (length (group_bytes es)) room (omega (arith, group_by_words es h))
+
+pub ruleset fit = (group_few, fits_all, le-leb)
 
 pub ruleset layings = (laying_none, laying_turn, laying_more, laying_end, laid_end, laid_group, count_first)

@@ -21,10 +21,13 @@ fn rising(entries: &[u64]) -> bool
 }
 
 // Whether words form a group: "0 to 64 entries", whole ones, "ids strictly rising", lengths 1 to M.
+#[tactic(auto, using(crate::proofs::Judgings::judgings))]
 pub(crate) fn is_group(entries: &[u64]) -> bool
     ensures { result ≡ is_group entries.now }
 {
-    entries.len() <= GROUP_WORDS
-        && entries.len() % 2 == 0
-        && (entries.is_empty() || rising(entries))
+    if GROUP_WORDS < entries.len() || entries.len() % 2 != 0 {
+        false
+    } else {
+        entries.is_empty() || rising(entries)
+    }
 }

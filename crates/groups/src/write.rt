@@ -63,6 +63,7 @@ fn lay(entries: &[u64], out: &mut [u8]) -> usize
 }
 
 // Whether a group fits a buffer of so many bytes. Where every group of so many entries would fit, this one is not measured.
+#[tactic(auto, using(crate::proofs::Layings::fit))]
 fn fits(entries: &[u64], room: usize) -> bool
     requires { IsGroup entries.now }
     ensures { result ≡ leb (length (group_bytes entries.now)) room }

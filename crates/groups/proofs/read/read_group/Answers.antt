@@ -1,14 +1,13 @@
 -- `groups::read::read_group`: no group, too few words, or the entries copied.
 use mathlib.Core.Path.{◌≡◌, refl}
-use Prim.Native.Nat.{ℕ, ◌≤◌}
+use Prim.Native.Nat.{ℕ}
 use native.Mathlib.Omega.{arith}
-use lib.ListN.{length}
 use Rattle.std.specs.Option.{ok_or}
-use Rattle.std.specs.Prelude.{Option, Some, None, Result, Err}
+use Rattle.std.specs.Prelude.{Option, Some, None, Err}
 use Rattle.std.proofs.lemmas.Result.{err_from_is_err_and}
 use Rattle.rules.specs.declared.Refusal.{Refusal}
 use Rattle.rules.specs.declared.Refusal.TheVariants.{NoGroup}
-use Rattle.groups.proofs.Answers.{decoded_none, decoded_few, decoded_long, decoded_all}
+use Rattle.groups.proofs.Answers.{decoded_none, decoded_long, decoded_all}
 use Rattle.groups.proofs.read.read_group.Goals as goal
 
 -- the refusal of a value that is missing
