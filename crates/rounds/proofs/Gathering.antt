@@ -26,7 +26,7 @@ use Rattle.rules.proofs.laws.repair.Rounds.{tables_split}
 use Rattle.steps.specs.Verdicts.{Ready}
 use Rattle.steps.proofs.Tables.{site_sound, site_length}
 use Rattle.rounds.specs.Unions.{united, in_use, padded}
-use Rattle.rounds.specs.Values.{gathered}
+use Rattle.rounds.specs.Values.{Repairable, gathered}
 use Rattle.rounds.proofs.Uniting.{Packed, packed_sound, packed_held, united_packed, united_of, in_use_packed, in_use_of, padded_sound, padded_of}
 
 -- the tables from a site on
@@ -42,7 +42,13 @@ pub record Gathered (run : Run) (ws : List ℕ) (k : ℕ) (es : List ℕ) : Type
   pub packed : Packed 0 es
   pub comes : (x : ℕ) → join (length_of es x) (largest (entries_of_all (rest run ws k)) x) ≡ all run ws x
 
-module _ (run : Run) (ws : List ℕ) (ready : Ready run ws) (some : 1 ≤ run.sites) where
+module _ (run : Run) (ws : List ℕ) (ok : Repairable run ws) where
+  abbrev ready : Ready run ws
+  ready = ok.ready
+
+  abbrev some : 1 ≤ run.sites
+  some = ok.some
+
   fine : (k : ℕ) → k < run.sites → (x : ℕ) → length_of (in_use (table_at run ws k)) x ≡ length_of (table_at run ws k) x
   fine k l x = in_use_of (table_at run ws k) (site_sound run ws ready k l) x
 

@@ -8,6 +8,7 @@ mod hand;
 mod lent;
 mod level;
 mod seen;
+mod tables;
 mod union;
 
 pub use lent::repair;
