@@ -18,7 +18,6 @@ use Rattle.rules.specs.meaning.States.{State, StateSound, lent, width, table_at,
 use Rattle.rules.specs.meaning.Runs.{fresh_refusal, after_fresh}
 use Rattle.rules.specs.meaning.Rounds.{all_tables, round_merges, after_all}
 use Rattle.rules.specs.meaning.Events.{round, outcome, refusal_for, after_event}
-use Rattle.rules.proofs.laws.table.Order.{Side, Side.below, Side.same, Side.above, side}
 use Rattle.rules.proofs.laws.run.Sites.{words_by}
 use Rattle.rules.proofs.laws.run.Tables.{words_long, site_length}
 use Rattle.rules.proofs.laws.run.Sound.{fresh_sound}

@@ -1,6 +1,6 @@
 -- A repair round, once the judge has spoken: refused for room, or accepted with all tables level.
 -- Assumes nothing.
-use Prim.Native.Nat.{ℕ, zero, suc, ◌*◌, ◌-◌, ◌≤◌}
+use Prim.Native.Nat.{ℕ, zero, suc, ◌*◌, ◌-◌}
 use native.Mathlib.Omega.{arith}
 use mathlib.Core.Bool.{Bool, true, false, cond}
 use mathlib.Core.Path.{◌≡◌, refl, sym, ◌∙◌}
@@ -19,7 +19,6 @@ use Rattle.rules.proofs.laws.run.Steps.{pass}
 use Rattle.rules.proofs.laws.repair.Rounds.{round_many}
 use Rattle.judge.specs.Judged.{judgement}
 use Rattle.judge.proofs.Judging.{judged_first, judged_ready}
-use Rattle.steps.specs.Verdicts.{Ready}
 use Rattle.rounds.specs.Values.{Repairable, Evened, answer_seen, words_seen}
 
 module _ (run : Run) (ws : List ℕ) (si : Sight) where

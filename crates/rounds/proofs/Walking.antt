@@ -3,16 +3,14 @@
 use Prim.Native.Nat.{ℕ, zero, suc, ◌+◌, ◌*◌, ◌-◌, ◌/◌, ◌≤◌, ◌<◌}
 use native.Mathlib.Numerals.{add-one}
 use native.Mathlib.Omega.{arith}
-use mathlib.Core.Bool.{Bool, true, false, ◌&&◌, cond}
+use mathlib.Core.Bool.{Bool, true, false, cond}
 use mathlib.Core.Logic.{◌⊎◌, inl, inr}
 use mathlib.Core.Path.{◌≡◌, refl, sym, ap, ◌∙◌}
 use mathlib.Core.List.{List, [], ◌∷◌, ◌++◌, append_assoc, append-nil}
 use lib.ListN.{length, get_or, take, drop, set, length-set, length-append, length-drop}
-use lib.Seq.{drop-cons, take_all, take_at, take-suc-set, length-take-le}
+use lib.Seq.{drop-cons, take_all, take-suc-set, length-take-le}
 use lib.Dec.{ltb}
-use borrow.Author.Tests.{ltb-true, ltb-false, lt-ltb}
 use Rattle.rules.specs.meaning.Lengths.{join}
-use Rattle.rules.proofs.laws.table.View.{parts}
 use Rattle.rounds.specs.Unions.{beside, united, Whole, Laid, Ended}
 use Rattle.rounds.proofs.Uniting.{united_first, united_second, united_both}
 

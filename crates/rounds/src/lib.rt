@@ -3,7 +3,6 @@
 #![tactic(auto)]
 
 mod even;
-mod gather;
 mod hand;
 mod lent;
 mod level;

@@ -1,5 +1,5 @@
 -- `rounds::seen::repair_seen`: the judge, and the room.
-use Rattle.std.proofs.Common.{◌≡◌, ◌∙◌}
+use Rattle.std.proofs.Common.{◌∙◌}
 use Rattle.rules.specs.meaning.Parcels.{no_parcel}
 use Rattle.judge.specs.Judged.{seen_as}
 use Rattle.rounds.proofs.Repairing.{judged_out, repairable, full_out, taken}
