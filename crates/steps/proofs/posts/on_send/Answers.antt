@@ -84,39 +84,39 @@ pub overflow_mul-parcel : goal.overflow_mul-parcel
 overflow_mul-parcel c =
     let from_in : c.args.from < c.args.run.sites = c.if-run-from.false in
     let found_of_law : c.lookup.result ≡ found_of (table_at c.args.run ((c.args.words.now)) c.args.from) c.args.id = let p = c in let a = c.args in told_of a.run ((c.args.words.now)) a.from _ _ p.part_of-part.ensures.0 p.part_of-part.ensures.1 (λ (t : List ℕ). found_of t a.id) c.lookup.ensures in
-    let found : found_of (table_at c.args.run ((c.args.words.now)) c.args.from) c.args.id ≡ Some ((c.in-At.i)) = sym (found_of_law) ∙ c.in-At.is in
+    let found : found_of (table_at c.args.run ((c.args.words.now)) c.args.from) c.args.id ≡ Some ((c.in-Some.i)) = sym (found_of_law) ∙ c.in-Some.is in
     let sound_of : SoundTable (table_at c.args.run ((c.args.words.now)) c.args.from) = site_sound c.args.run ((c.args.words.now)) c.requires c.args.from (from_in) in
-    let low : 2 * (c.in-At.i) + 1 < length (table_at c.args.run ((c.args.words.now)) c.args.from) = place _ _ ((c.in-At.i)) (sound_of) (found) in
-    let small : 2 * (c.in-At.i) + 1 < 4096 = let p = c in omega (arith, low, site_length c.args.run ((c.args.words.now)) c.requires c.args.from (from_in), c.requires.sized.small) in
+    let low : 2 * (c.in-Some.i) + 1 < length (table_at c.args.run ((c.args.words.now)) c.args.from) = place _ _ ((c.in-Some.i)) (sound_of) (found) in
+    let small : 2 * (c.in-Some.i) + 1 < 4096 = let p = c in omega (arith, low, site_length c.args.run ((c.args.words.now)) c.requires c.args.from (from_in), c.requires.sized.small) in
     omega (arith, small)
 
 pub overflow_add-parcel : goal.overflow_add-parcel
 overflow_add-parcel c =
     let from_in : c.args.from < c.args.run.sites = c.if-run-from.false in
     let found_of_law : c.lookup.result ≡ found_of (table_at c.args.run ((c.args.words.now)) c.args.from) c.args.id = let p = c in let a = c.args in told_of a.run ((c.args.words.now)) a.from _ _ p.part_of-part.ensures.0 p.part_of-part.ensures.1 (λ (t : List ℕ). found_of t a.id) c.lookup.ensures in
-    let found : found_of (table_at c.args.run ((c.args.words.now)) c.args.from) c.args.id ≡ Some ((c.in-At.i)) = sym (found_of_law) ∙ c.in-At.is in
+    let found : found_of (table_at c.args.run ((c.args.words.now)) c.args.from) c.args.id ≡ Some ((c.in-Some.i)) = sym (found_of_law) ∙ c.in-Some.is in
     let sound_of : SoundTable (table_at c.args.run ((c.args.words.now)) c.args.from) = site_sound c.args.run ((c.args.words.now)) c.requires c.args.from (from_in) in
-    let low : 2 * (c.in-At.i) + 1 < length (table_at c.args.run ((c.args.words.now)) c.args.from) = place _ _ ((c.in-At.i)) (sound_of) (found) in
-    let small : 2 * (c.in-At.i) + 1 < 4096 = let p = c in omega (arith, low, site_length c.args.run ((c.args.words.now)) c.requires c.args.from (from_in), c.requires.sized.small) in
+    let low : 2 * (c.in-Some.i) + 1 < length (table_at c.args.run ((c.args.words.now)) c.args.from) = place _ _ ((c.in-Some.i)) (sound_of) (found) in
+    let small : 2 * (c.in-Some.i) + 1 < 4096 = let p = c in omega (arith, low, site_length c.args.run ((c.args.words.now)) c.requires c.args.from (from_in), c.requires.sized.small) in
     omega (arith, small)
 
 pub offset_bounds-own-i : goal.offset_bounds-own-i
 offset_bounds-own-i c =
     let from_in : c.args.from < c.args.run.sites = c.if-run-from.false in
     let found_of_law : c.lookup.result ≡ found_of (table_at c.args.run ((c.args.words.now)) c.args.from) c.args.id = let p = c in let a = c.args in told_of a.run ((c.args.words.now)) a.from _ _ p.part_of-part.ensures.0 p.part_of-part.ensures.1 (λ (t : List ℕ). found_of t a.id) c.lookup.ensures in
-    let found : found_of (table_at c.args.run ((c.args.words.now)) c.args.from) c.args.id ≡ Some ((c.in-At.i)) = sym (found_of_law) ∙ c.in-At.is in
+    let found : found_of (table_at c.args.run ((c.args.words.now)) c.args.from) c.args.id ≡ Some ((c.in-Some.i)) = sym (found_of_law) ∙ c.in-Some.is in
     let sound_of : SoundTable (table_at c.args.run ((c.args.words.now)) c.args.from) = site_sound c.args.run ((c.args.words.now)) c.requires c.args.from (from_in) in
-    let low : 2 * (c.in-At.i) + 1 < length (table_at c.args.run ((c.args.words.now)) c.args.from) = place _ _ ((c.in-At.i)) (sound_of) (found) in
-    let small : 2 * (c.in-At.i) + 1 < 4096 = let p = c in omega (arith, low, site_length c.args.run ((c.args.words.now)) c.requires c.args.from (from_in), c.requires.sized.small) in
+    let low : 2 * (c.in-Some.i) + 1 < length (table_at c.args.run ((c.args.words.now)) c.args.from) = place _ _ ((c.in-Some.i)) (sound_of) (found) in
+    let small : 2 * (c.in-Some.i) + 1 < 4096 = let p = c in omega (arith, low, site_length c.args.run ((c.args.words.now)) c.requires c.args.from (from_in), c.requires.sized.small) in
     omega (arith, small)
 
 pub bounds-own-i : goal.bounds-own-i
 bounds-own-i c =
     let found_of_law : c.lookup.result ≡ found_of (table_at c.args.run ((c.args.words.now)) c.args.from) c.args.id = let p = c in let a = c.args in told_of a.run ((c.args.words.now)) a.from _ _ p.part_of-part.ensures.0 p.part_of-part.ensures.1 (λ (t : List ℕ). found_of t a.id) c.lookup.ensures in
-    let found : found_of (table_at c.args.run ((c.args.words.now)) c.args.from) c.args.id ≡ Some ((c.in-At.i)) = sym (found_of_law) ∙ c.in-At.is in
+    let found : found_of (table_at c.args.run ((c.args.words.now)) c.args.from) c.args.id ≡ Some ((c.in-Some.i)) = sym (found_of_law) ∙ c.in-Some.is in
     let from_in : c.args.from < c.args.run.sites = c.if-run-from.false in
     let sound_of : SoundTable (table_at c.args.run ((c.args.words.now)) c.args.from) = site_sound c.args.run ((c.args.words.now)) c.requires c.args.from (from_in) in
-    let low : 2 * (c.in-At.i) + 1 < length (table_at c.args.run ((c.args.words.now)) c.args.from) = place _ _ ((c.in-At.i)) (sound_of) (found) in
+    let low : 2 * (c.in-Some.i) + 1 < length (table_at c.args.run ((c.args.words.now)) c.args.from) = place _ _ ((c.in-Some.i)) (sound_of) (found) in
     let k = c in
     let p = c in
     let a = c.args in
@@ -135,14 +135,14 @@ returns c =
     let to_in : c.args.to < c.args.run.sites = c.if-run-to.false in
     let sound_of : SoundTable (table_at c.args.run ((c.args.words.now)) c.args.from) = site_sound c.args.run ((c.args.words.now)) c.requires c.args.from (from_in) in
     let found_of_law : c.lookup.result ≡ found_of (table_at c.args.run ((c.args.words.now)) c.args.from) c.args.id = let p = c in let a = c.args in told_of a.run ((c.args.words.now)) a.from _ _ p.part_of-part.ensures.0 p.part_of-part.ensures.1 (λ (t : List ℕ). found_of t a.id) c.lookup.ensures in
-    let found : found_of (table_at c.args.run ((c.args.words.now)) c.args.from) c.args.id ≡ Some ((c.in-At.i)) = sym (found_of_law) ∙ c.in-At.is in
+    let found : found_of (table_at c.args.run ((c.args.words.now)) c.args.from) c.args.id ≡ Some ((c.in-Some.i)) = sym (found_of_law) ∙ c.in-Some.is in
     let s = c in
     let k = s in
     let p = c in
     let a = c.args in
     let t = table_at a.run ((c.args.words.now)) a.from in
-    let held : length_of t a.id ≡ 0 → ⊥ = λ z. omega (arith, z, above_zero t a.id ((c.in-At.i)) (sound_of) (found)) in
+    let held : length_of t a.id ≡ 0 → ⊥ = λ z. omega (arith, z, above_zero t a.id ((c.in-Some.i)) (sound_of) (found)) in
     c.post.ensures
     ∙ send_step a.run ((c.args.words.now)) a.seen a.from a.to a.id (from_in) (to_in) p.if-from-to.false held _
-    (ap (λ (u : List ℕ). length_at u ((c.in-At.i))) (part_is a.run ((c.args.words.now)) a.from _ _ p.part_of-part.ensures.0 p.part_of-part.ensures.1) ∙ its t a.id ((c.in-At.i)) (sound_of) (found))
+    (ap (λ (u : List ℕ). length_at u ((c.in-Some.i))) (part_is a.run ((c.args.words.now)) a.from _ _ p.part_of-part.ensures.0 p.part_of-part.ensures.1) ∙ its t a.id ((c.in-Some.i)) (sound_of) (found))
     _ s.sent_pair-after.ensures
