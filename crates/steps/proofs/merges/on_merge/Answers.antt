@@ -1,5 +1,5 @@
 -- `steps::merges::on_merge`: by its tests in order; the two tables stand apart in the words.
-use Rattle.std.proofs.Common.{◌≡◌, ◌-◌, ap, arith, ◌∙◌}
+use Rattle.std.proofs.Common.{◌≡◌, ◌-◌, ap, arith, refl, ◌∙◌}
 use Rattle.rules.specs.declared.Answer.{Answer}
 use Rattle.rules.specs.declared.Step.TheVariants.{Merge}
 use Rattle.rules.specs.meaning.Operations.{merge_answer, merge_table}

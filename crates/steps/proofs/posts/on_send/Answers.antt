@@ -1,5 +1,5 @@
 -- `steps::posts::on_send`: by its tests in order.
-use Rattle.std.proofs.Common.{arith, ap, ◌∙◌}
+use Rattle.std.proofs.Common.{arith, refl, sym, ◌∙◌}
 use Rattle.rules.specs.declared.Step.TheVariants.{Send}
 use Rattle.rules.specs.meaning.Steps.{effect}
 use Rattle.steps.proofs.Posting.{sent_none, sent_place, sent_small, sent_length, sent_held, send_unheld, send_step}
@@ -26,8 +26,8 @@ returns-in_default-lookup c =
     let a = c.args in
     let two = c.in_default.ensures in
     let p = c.part_of in
-    let h = c.in_default-lookup in
-    ?
+    c.refuse-in_default-lookup.ensures ∙ (refused_law _ _ _ _ 5 (send_unheld a.run a.words.now a.seen a.from a.to a.id two.0 two.1.0 two.1.1
+    (sent_none a.run a.words.now c.requires a.from _ _ a.id two.0 p.ensures.0 p.ensures.1 (sym c.in_default-lookup.is ∙ c.lookup.ensures)))).0
 
 pub overflow_mul-parcel : goal.overflow_mul-parcel
 overflow_mul-parcel c = omega (arith, sent_small c.args.run c.args.words.now c.requires c.args.from _ _ c.args.id c.in_default.ensures.0 c.part_of.ensures.0 c.part_of.ensures.1 c.in-Some.i c.in-Some.ensures)
