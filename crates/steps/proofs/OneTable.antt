@@ -76,10 +76,12 @@ Done run ws si k said put v ws' =
 module _ (run : Run) (ws : List ℕ) (si : Sight) (k e : ℕ) (v : Verdict) (ws' : List ℕ) (out : run.sites ≤ k → (v ≡ refused_verdict 3 si.count) × (ws' ≡ ws)) where
   pub add_by : (k < run.sites → Done run ws si k (λ (t : List ℕ). add_answer t e) (λ (t : List ℕ). add_table t e) v ws') → (v ≡ step_verdict run ws si (Add k e)) × (ws' ≡ step_words run ws si (Add k e))
   add_by done = elim (cases_lt k run.sites) [
-      inr h ↦ let r = refused_law run ws si (Add k e) 2 (add_outside run ws si k e h) in ((out h).0 ∙ r.0, (out h).1 ∙ r.1)
-    | inl h ↦ let d = done h in let own = add_step run ws si k e h in (d.4 ∙ ap (λ (a : Answer). table_verdict a si.count) d.2 ∙ own.0, d.5 ∙ ap (with_table run ws k) d.3 ∙ own.1) ]
+    | inr h ↦ let r = refused_law run ws si (Add k e) 2 (add_outside run ws si k e h) in ((out h).0 ∙ r.0, (out h).1 ∙ r.1)
+    | inl h ↦ let d = done h in let own = add_step run ws si k e h in (d.4 ∙ ap (λ (a : Answer). table_verdict a si.count) d.2 ∙ own.0, d.5 ∙ ap (with_table run ws k) d.3 ∙ own.1)
+  ]
 
   pub remove_by : (k < run.sites → Done run ws si k (λ (t : List ℕ). remove_answer M t e) (λ (t : List ℕ). remove_table M t e) v ws') → (v ≡ step_verdict run ws si (Remove k e)) × (ws' ≡ step_words run ws si (Remove k e))
   remove_by done = elim (cases_lt k run.sites) [
-      inr h ↦ let r = refused_law run ws si (Remove k e) 2 (remove_outside run ws si k e h) in ((out h).0 ∙ r.0, (out h).1 ∙ r.1)
-    | inl h ↦ let d = done h in let own = remove_step run ws si k e h in (d.4 ∙ ap (λ (a : Answer). table_verdict a si.count) d.2 ∙ own.0, d.5 ∙ ap (with_table run ws k) d.3 ∙ own.1) ]
+    | inr h ↦ let r = refused_law run ws si (Remove k e) 2 (remove_outside run ws si k e h) in ((out h).0 ∙ r.0, (out h).1 ∙ r.1)
+    | inl h ↦ let d = done h in let own = remove_step run ws si k e h in (d.4 ∙ ap (λ (a : Answer). table_verdict a si.count) d.2 ∙ own.0, d.5 ∙ ap (with_table run ws k) d.3 ∙ own.1)
+  ]

@@ -4,7 +4,7 @@ use Prim.Native.Nat.{ℕ, zero, suc, ◌+◌, ◌*◌, ◌-◌, ◌≤◌, ◌<�
 use native.Mathlib.Omega.{arith}
 use mathlib.Core.Path.{◌≡◌, refl, ap, ◌∙◌}
 use mathlib.Core.Bool.{Bool, true, false, ◌||◌}
-use mathlib.Core.List.{List, [], ◌∷◌, ◌++◌}
+use mathlib.Core.List.{List, ◌∷◌, ◌++◌}
 use lib.Dec.{eqb}
 use lib.ListN.{length, take, drop}
 use lib.Seq.{length-take-le}
@@ -15,9 +15,6 @@ use Rattle.rules.specs.declared.Step.{Step}
 use Rattle.rules.specs.meaning.Lengths.{M}
 use Rattle.rules.specs.meaning.Table.{SoundTable}
 use Rattle.rules.specs.meaning.Operations.{answer, unless_refused}
-use Rattle.rules.specs.meaning.Parcels.{no_parcel}
-use Rattle.rules.specs.meaning.Links.{no_link, no_pair}
-use Rattle.rules.specs.meaning.Ledgers.{no_counter}
 use Rattle.rules.specs.meaning.States.{width, table_at, with_table}
 use Rattle.rules.specs.meaning.Refusals.{Test, first_given, ◌when◌}
 use Rattle.rules.specs.meaning.Steps.{no_post, outside, effect}

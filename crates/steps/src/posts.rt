@@ -54,7 +54,14 @@ pub(crate) fn on_send(words: &[u64], run: Run, seen: Sight, from: u64, to: u64, 
         sender: from as u32,
         serial: pair.next,
     };
-    post(seen, parcel, 1, seen.books.counts.sent, seen.books.link, sent_pair(pair))
+    post(
+        seen,
+        parcel,
+        1,
+        seen.books.counts.sent,
+        seen.books.link,
+        sent_pair(pair),
+    )
 }
 
 // Whether the named slot is there and occupied.
@@ -70,7 +77,14 @@ pub(crate) fn on_again(run: Run, seen: Sight, slot: u64) -> Verdict
     ensures { (ws : List ℕ) → result ≡ step_verdict run ws seen (Again slot) }
 {
     if is_there(run, seen, slot) {
-        post(seen, seen.named, 2, seen.books.counts.copied, NO_LINK, Pair::default())
+        post(
+            seen,
+            seen.named,
+            2,
+            seen.books.counts.copied,
+            NO_LINK,
+            Pair::default(),
+        )
     } else {
         refuse(Refusal::NoParcel, seen)
     }

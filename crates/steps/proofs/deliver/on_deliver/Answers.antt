@@ -1,11 +1,10 @@
 -- `steps::deliver::on_deliver`: by its tests in order.
-use Rattle.std.proofs.Common.{ℕ, List, Bool, false, ◌≡◌, ◌<◌, sym, ap, arith, ◌∙◌}
+use Rattle.std.proofs.Common.{ℕ, List, sym, ap, arith, ◌∙◌}
 use borrow.Author.Tests.{not-true, not-false}
 use Rattle.rules.specs.declared.Answer.{Answer}
 use Rattle.rules.specs.meaning.Lengths.{join}
 use Rattle.rules.specs.meaning.Table.{length_of, held_with}
 use Rattle.rules.specs.meaning.Operations.{crowded, absorb_answer, absorb_table}
-use Rattle.rules.specs.meaning.Steps.{nothing_there}
 use Rattle.steps.specs.Verdicts.{delivered}
 use Rattle.steps.proofs.Delivering.{its_site, deliver_none, deliver_unordered, deliver_crowded, deliver_full, deliver_step}
 use Rattle.steps.proofs.Tables.{part_end, part_sound, told_of, put_of, refused_law}

@@ -5,7 +5,6 @@ use Rattle.rules.specs.declared.Step.TheVariants.{Merge}
 use Rattle.rules.specs.meaning.Operations.{merge_answer, merge_table}
 use Rattle.rules.specs.meaning.States.{width, table_at, with_table}
 use Rattle.rules.specs.meaning.Steps.{effect}
-use Rattle.merging.specs.Walks.{part_at}
 use Rattle.steps.specs.Verdicts.{table_verdict}
 use Rattle.steps.proofs.Merging.{site_part, site_put, sites_apart, merge_step}
 use Rattle.steps.proofs.Tables.{site_sound, sites_refused}

@@ -1,6 +1,5 @@
 -- `steps::one::on_table`: the part of the words is the site's table.
-use Rattle.std.proofs.Common.{List, ℕ, refl, ◌∙◌}
-use Rattle.std.specs.Fn.{FnOnceReturnsAtMut}
+use Rattle.std.proofs.Common.{refl}
 use Rattle.steps.proofs.Tables.{part_sound, part_is, put_is}
 use Rattle.steps.proofs.one.on_table.Goals as goal
 
@@ -9,8 +8,10 @@ change-answer-requires g c = c.requires.takes _ (part_sound c.args.run c.args.wo
 
 pub returns-clause-inside : goal.returns-clause-inside
 returns-clause-inside g c = λ inside.
-    let a = c.args in
-    (c.change-answer.result, c.change-answer.new.arg2,
+    let a = c.args in (
+      c.change-answer.result,
+      c.change-answer.new.arg2,
       record { shown = _; shows = part_is a.run a.words.now a.site _ _ c.part_of.ensures.0 c.part_of.ensures.1; left = _; met = c.change-answer.ensures; leaves = refl },
       c.hand_on.ensures,
-      put_is a.run a.words.now a.site _ _ c.part_of.ensures.0 c.part_of.ensures.1 c.change-answer.new.arg2)
+      put_is a.run a.words.now a.site _ _ c.part_of.ensures.0 c.part_of.ensures.1 c.change-answer.new.arg2,
+    )
