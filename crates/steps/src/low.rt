@@ -17,6 +17,7 @@ fn low_taken(low: usize, step: Step, value: u64) -> usize
 }
 
 // What the next step may be told, from what this one was told and answered.
+#[tactic(auto, unfolding(rules::specs::meaning::Acts::low_after))]
 pub fn low_after(low: usize, step: Step, answer: Answer) -> usize
     ensures { result ≡ low_after low step answer }
 {
