@@ -1,7 +1,6 @@
 -- What the shift and the or make of a byte, and the turns of the two loops.
 -- Assumes nothing.
 use Prim.Native.Nat.{ℕ, suc, ◌+◌, ◌*◌, ◌-◌, ◌%◌, ◌^◌, ◌≤◌, ◌<◌, min}
-use native.Mathlib.Nat.{mul_comm}
 use native.Mathlib.Numerals.{add-one}
 use native.Mathlib.Omega.{arith}
 use mathlib.Core.Bool.{Bool, true, false, cond}
@@ -9,8 +8,8 @@ use mathlib.Core.Path.{◌≡◌, refl, sym, ap, ◌∙◌}
 use mathlib.Core.Logic.{◌⊎◌, inl, inr}
 use mathlib.Core.List.{List, ◌∷◌}
 use lib.ListN.{length, get_or, take, drop, set, length-take, length-drop, length-set}
-use lib.Seq.{get_or-drop, drop-drop, take_all}
-use lib.Bits.{bit_and, bit_or, and_mask, or_zero_r, or_shifted_r}
+use lib.Seq.{drop-drop, take_all}
+use lib.Bits.{bit_or, or_zero_r, or_shifted_r}
 use lib.Pow.{shl_exact}
 use mir.Val.{bool_byte}
 use Rattle.rules.proofs.laws.table.Order.{lt_or_le}

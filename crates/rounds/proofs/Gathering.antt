@@ -4,9 +4,10 @@ use Prim.Native.Nat.{ℕ, suc, ◌+◌, ◌*◌, ◌-◌, ◌≤◌, ◌<◌}
 use native.Mathlib.Numerals.{add-one}
 use native.Mathlib.Omega.{arith}
 use mathlib.Core.Bool.{true, false}
-use mathlib.Core.Path.{◌≡◌, sym, ◌∙◌}
+use mathlib.Core.Path.{◌≡◌, sym, ap, ◌∙◌}
 use mathlib.Core.List.{List, ◌∷◌}
 use lib.ListN.{length, length-append, length-replicate}
+use lib.Seq.{length-take-le}
 use borrow.Author.Tests.{lt-leb}
 use Rattle.rules.specs.declared.Run.{Run}
 use Rattle.rules.specs.meaning.Lengths.{M, join}
@@ -25,8 +26,8 @@ use Rattle.rules.proofs.laws.repair.Tables.{one_table, taken_of, taken_where_it_
 use Rattle.rules.proofs.laws.repair.Rounds.{tables_split}
 use Rattle.steps.specs.Verdicts.{Ready}
 use Rattle.steps.proofs.Tables.{site_sound, site_length}
-use Rattle.rounds.specs.Unions.{united, in_use, padded}
-use Rattle.rounds.specs.Values.{gathered}
+use Rattle.rounds.specs.Unions.{united, in_use, front, padded}
+use Rattle.rounds.specs.Values.{Repairable, Evened, copies, gathered, levelled}
 use Rattle.rounds.proofs.Uniting.{Packed, packed_sound, packed_held, united_packed, united_of, in_use_packed, in_use_of, padded_sound, padded_of}
 
 -- the tables from a site on
@@ -42,7 +43,13 @@ pub record Gathered (run : Run) (ws : List ℕ) (k : ℕ) (es : List ℕ) : Type
   pub packed : Packed 0 es
   pub comes : (x : ℕ) → join (length_of es x) (largest (entries_of_all (rest run ws k)) x) ≡ all run ws x
 
-module _ (run : Run) (ws : List ℕ) (ready : Ready run ws) (some : 1 ≤ run.sites) where
+module _ (run : Run) (ws : List ℕ) (ok : Repairable run ws) where
+  abbrev ready : Ready run ws
+  ready = ok.ready
+
+  abbrev some : 1 ≤ run.sites
+  some = ok.some
+
   fine : (k : ℕ) → k < run.sites → (x : ℕ) → length_of (in_use (table_at run ws k)) x ≡ length_of (table_at run ws k) x
   fine k l x = in_use_of (table_at run ws k) (site_sound run ws ready k l) x
 
@@ -107,3 +114,11 @@ module _ (run : Run) (ws : List ℕ) (ready : Ready run ws) (some : 1 ≤ run.si
       let taken : all_taken (table_at run ws 0) (rest run ws 1) ≡ true = taken_where_it_fits run.capacity (table_at run ws 0) (rest run ws 1) own others ∙ (rw (← tables_split run ws some) fit) in
       let end = taken_of run.capacity (rest run ws 1) others (table_at run ws 0) own taken in
       (sym fit, one_table run.capacity _ _ table end.0 (λ x. of x ∙ split x ∙ sym (end.1 x)))
+
+  -- handed out, they are what the round leaves
+  pub gather_out : (k n : ℕ) (room us : List ℕ) → Gathered run ws k (front n room) → run.sites ≤ k → n ≤ run.capacity → length room ≡ width run
+      → us ≡ copies run.sites (padded run.capacity n (front n room)) → Evened run ws true us
+  unfolding levelled
+  gather_out k n room us so_far last few wide out =
+      let end = gather_end k n (front n room) so_far last few (length-take-le (2 * n) room (omega arith)) in
+      (end.0, rw (← end.0) (out ∙ ap (copies run.sites) end.1))

@@ -1,12 +1,12 @@
 -- Handing out, site by site: the table stands at every site so far, and what is behind is as it was.
 -- Assumes nothing.
 use Prim.Native.Nat.{ℕ, suc, ◌+◌, ◌*◌, ◌-◌, ◌≤◌, ◌<◌}
-use native.Mathlib.Nat.{zero-mul, mul-le-mul_right}
+use native.Mathlib.Nat.{zero-mul}
 use native.Mathlib.Numerals.{add-one}
 use native.Mathlib.Omega.{arith}
 use mathlib.Core.Path.{◌≡◌, sym, ap, ◌∙◌}
-use mathlib.Core.List.{List, ◌++◌, append_assoc, append-nil}
-use lib.ListN.{length, take, drop, length-append, length-drop, drop_of_length-le}
+use mathlib.Core.List.{List, ◌++◌, append_assoc}
+use lib.ListN.{length, take, drop}
 use lib.Seq.{take_at, drop_at}
 use Rattle.rules.specs.declared.Run.{Run}
 use Rattle.rules.specs.meaning.States.{width}
@@ -27,10 +27,6 @@ module _ (run : Run) (ws t : List ℕ) (sized : Sized run (length ws)) (wide : l
   unfolding copies
   hand_start = record { within = omega arith; words = rw (zero-mul (width run)) }
 
-  -- the words stay as many
-  pub hand_long : (k : ℕ) (us : List ℕ) → Handed run ws t k us → length us ≡ length ws
-  hand_long k us so_far = rw so_far.words (simp (length-append, length-drop) (omega (arith, front k, sized.long, mul-le-mul_right (width run) so_far.within)))
-
   pub hand_more : (k from to : ℕ) (us v : List ℕ) → Handed run ws t k us → k < run.sites → from ≡ k * width run → to ≡ k * width run + width run → v ≡ t
       → Handed run ws t (k + 1) (take from us ++ (v ++ drop (to - from) (drop from us)))
   hand_more k from to us v so_far more at end is =
@@ -40,8 +36,3 @@ module _ (run : Run) (ws t : List ℕ) (sized : Sized run (length ws)) (wide : l
         words = rw (broad, at, is, so_far.words, take_at (copies k t) (drop (k * width run) ws) (k * width run) (front k), drop_at (copies k t) (drop (k * width run) ws) (k * width run) (front k), next_part k (width run) ws, add-one k)
             (sym (append_assoc (copies k t) t (drop (suc k * width run) ws)) ∙ ap (λ (l : List ℕ). l ++ drop (suc k * width run) ws) (copies_more k t));
       }
-
-  pub hand_end : (k : ℕ) (us : List ℕ) → Handed run ws t k us → run.sites ≤ k → us ≡ copies run.sites t
-  hand_end k us so_far last =
-      let all : k ≡ run.sites = omega (arith, so_far.within) in
-      rw (so_far.words, all, drop_of_length-le ws {i = run.sites * width run} (omega (arith, sized.long))) (append-nil (copies run.sites t))

@@ -3,7 +3,7 @@
 use Prim.Native.Nat.{ℕ, zero, suc, ◌+◌, ◌*◌, ◌≤◌, ◌<◌}
 use native.Mathlib.Nat.{zero-mul, suc-mul}
 use native.Mathlib.Omega.{arith}
-use mathlib.Core.Bool.{true}
+use mathlib.Core.Bool.{Bool, true}
 use mathlib.Core.Path.{◌≡◌, refl, sym, ap, ◌∙◌}
 use mathlib.Core.List.{List, [], ◌++◌, append_assoc, append-nil}
 use lib.ListN.{length, take, drop, length-append}
@@ -18,7 +18,6 @@ use Rattle.rules.specs.meaning.States.{State, StateSound, lent, width, table_at,
 use Rattle.rules.specs.meaning.Runs.{fresh_refusal, after_fresh}
 use Rattle.rules.specs.meaning.Rounds.{all_tables, round_merges, after_all}
 use Rattle.rules.specs.meaning.Events.{round, outcome, refusal_for, after_event}
-use Rattle.rules.proofs.laws.table.Order.{Side, Side.below, Side.same, Side.above, side}
 use Rattle.rules.proofs.laws.run.Sites.{words_by}
 use Rattle.rules.proofs.laws.run.Tables.{words_long, site_length}
 use Rattle.rules.proofs.laws.run.Sound.{fresh_sound}
@@ -26,7 +25,7 @@ use Rattle.rules.proofs.laws.run.Events.{accepted_event_moves}
 use Rattle.rules.proofs.laws.run.Rounds.{all_sound_law, round_in_sound}
 use Rattle.rules.proofs.laws.repair.Rounds.{some_site, fitted, table_after, level_fits, level_stays, taken_accepted}
 use Rattle.steps.specs.Verdicts.{Ready}
-use Rattle.rounds.specs.Values.{copies, gathered, levelled}
+use Rattle.rounds.specs.Values.{Repairable, Evened, copies, gathered, levelled}
 
 -- ---- one table so many times
 pub copies_long : (n : ℕ) (t : List ℕ) → length (copies n t) ≡ n * length t
@@ -72,28 +71,15 @@ module _ (run : Run) (s : State) (ok : refusal_for run s round ≡ 0) where
       words_by (width run) run.sites _ _ (words_long run _ _ (all_sound_law run (round_merges run) s so).0) (rw (many, wide))
       (λ k l. table k l ∙ (rw (← wide) (sym (copies_at run.sites (gathered run s.words) k l))))
 
--- ---- the tables one by one
--- that of site 0 stands in front
-pub first_is : (run : Run) (ws : List ℕ) (to : ℕ) → to ≡ 0 * width run + width run → take to ws ≡ table_at run ws 0
-unfolding table_at
-first_is run ws to at = let wide : to ≡ width run = omega (arith, zero-mul (width run)) in rw (wide, zero-mul (width run))
-
--- one more that is the first one's
-pub level_more : (run : Run) (ws : List ℕ) (site : ℕ) → ((k : ℕ) → k < site → table_at run ws k ≡ table_at run ws 0) → table_at run ws site ≡ table_at run ws 0
-    → (k : ℕ) → k < site + 1 → table_at run ws k ≡ table_at run ws 0
-level_more run ws site so_far one k l = go (side k site)
-  where
-    go : Side k site → table_at run ws k ≡ table_at run ws 0
-    go (below p) = so_far k p
-    go (same p) = rw p one
-    go (above p) = absurd (omega arith)
-
 -- ---- words whose tables are equal already: they fit, and are level
-module _ (run : Run) (ws : List ℕ) (ready : Ready run ws) (some : 1 ≤ run.sites) where
+module _ (run : Run) (ws : List ℕ) (ok : Repairable run ws) where
+  abbrev ready : Ready run ws
+  ready = ok.ready
+
   sizes : (slots : ℕ) → slots ≤ 1024 → sizes_right run (length ws) slots ≡ true
   unfolding sizes_right
   sizes slots few = rw (
-    le-leb 1 run.sites some,
+    le-leb 1 run.sites ok.some,
     le-leb run.sites 16 ready.sized.few,
     le-leb run.capacity 2048 ready.sized.small,
     le-leb slots 1024 few,
@@ -119,10 +105,16 @@ module _ (run : Run) (ws : List ℕ) (ready : Ready run ws) (some : 1 ≤ run.si
   with_sound = (sizes (length begun.slots) (omega (arith, no_slots)), ready.tables, begun_sound.2, begun_sound.3, begun_sound.4)
 
   module _ (level : (k : ℕ) → k < run.sites → table_at run ws k ≡ table_at run ws 0) where
-    pub level_fit : fit_together run.capacity (all_tables run ws) ≡ true
+    level_fit : fit_together run.capacity (all_tables run ws) ≡ true
     level_fit = level_fits run with_words with_sound level
 
-    pub level_already : levelled run ws ≡ ws
+    level_already : levelled run ws ≡ ws
     level_already =
         let ok = taken_accepted run with_words with_sound level_fit in
         sym (level_words run with_words ok) ∙ sym (left run with_words ok) ∙ ap (λ (s : State). s.words) (level_stays run with_words with_sound level)
+
+    level_said : Evened run ws true ws
+    level_said = (sym level_fit, rw level_fit (sym level_already))
+
+  pub level_out : {b : Bool} → (b ≡ true → (k : ℕ) → k < run.sites → table_at run ws k ≡ table_at run ws 0) → b ≡ true → Evened run ws b ws
+  level_out told is = rw is (level_said (told is))

@@ -1,9 +1,9 @@
 -- A repair round, once the judge has spoken: refused for room, or accepted with all tables level.
 -- Assumes nothing.
-use Prim.Native.Nat.{ℕ, zero, suc, ◌*◌, ◌-◌, ◌≤◌}
+use Prim.Native.Nat.{ℕ, zero, suc, ◌*◌, ◌-◌}
 use native.Mathlib.Omega.{arith}
-use mathlib.Core.Bool.{true, false, cond}
-use mathlib.Core.Path.{◌≡◌, refl, ◌∙◌}
+use mathlib.Core.Bool.{Bool, true, false, cond}
+use mathlib.Core.Path.{◌≡◌, refl, sym, ◌∙◌}
 use mathlib.Core.List.{List}
 use lib.Dec.{leb, eqb}
 use borrow.Author.Tests.{leb-true, ne_eqb, not-false}
@@ -19,8 +19,7 @@ use Rattle.rules.proofs.laws.run.Steps.{pass}
 use Rattle.rules.proofs.laws.repair.Rounds.{round_many}
 use Rattle.judge.specs.Judged.{judgement}
 use Rattle.judge.proofs.Judging.{judged_first, judged_ready}
-use Rattle.steps.specs.Verdicts.{Ready}
-use Rattle.rounds.specs.Values.{levelled, answer_seen, words_seen}
+use Rattle.rounds.specs.Values.{Repairable, Evened, answer_seen, words_seen}
 
 module _ (run : Run) (ws : List ℕ) (si : Sight) where
   -- the judge's word comes first
@@ -39,24 +38,30 @@ module _ (run : Run) (ws : List ℕ) (si : Sight) where
   pub judged_out : (n : ℕ) → n ≡ judgement run ws si → (n ≡ 0 → ⊥) → Said (record { refusal = n; value = 0 }) ws
   judged_out n e ne = refused_with n ne (by_judge ∙ rw (← e, ne_eqb n 0 ne))
 
-  module _ (fine : judgement run ws si ≡ 0) where
-    pub ready : Ready run ws
-    ready = let r = judged_ready run ws si fine in record { sized = r.0; tables = r.1 }
+  module _ {n : ℕ} (told : n ≡ judgement run ws si) (none : n ≡ 0) where
+    fine : judgement run ws si ≡ 0
+    fine = sym told ∙ none
 
-    pub some : 1 ≤ run.sites
+    pub repairable : Repairable run ws
     unfolding judgement sizes_right
-    some = leb-true _ _ (parts (leb 1 run.sites) _ (not-false _ (pass 0 _ _ fine).0)).0
+    repairable =
+        let r = judged_ready run ws si fine in
+        record { ready = record { sized = r.0; tables = r.1 }; some = leb-true _ _ (parts (leb 1 run.sites) _ (not-false _ (pass 0 _ _ fine).0)).0 }
 
     own : round_refusal run ws si ≡ first_given (round_tests run ws)
     own = by_judge ∙ rw fine
 
-    -- "Otherwise it is refused with 8 before any write"
-    pub full_out : fit_together run.capacity (all_tables run ws) ≡ false → Said (record { refusal = 8; value = 0 }) ws
-    unfolding first_given
-    full_out full = refused_with 8 (λ z. omega arith) (own ∙ rw full)
+    module _ {b : Bool} {us : List ℕ} (out : Evened run ws b us) where
+      -- "Otherwise it is refused with 8 before any write"
+      pub full_out : b ≡ false → Said (record { refusal = 8; value = 0 }) us
+      unfolding first_given
+      full_out is =
+          let full : fit_together run.capacity (all_tables run ws) ≡ false = sym out.0 ∙ is in
+          rw (out.1, full) (refused_with 8 (λ z. omega arith) (own ∙ rw full))
 
-    pub taken : fit_together run.capacity (all_tables run ws) ≡ true → Said (record { refusal = 0; value = 2 * (run.sites - 1) }) (levelled run ws)
-    unfolding first_given
-    taken fit =
-        let ok : round_refusal run ws si ≡ 0 = own ∙ rw fit in
-        (rw (ok, round_many run), rw ok)
+      pub taken : b ≡ true → Said (record { refusal = 0; value = 2 * (run.sites - 1) }) us
+      unfolding first_given
+      taken is =
+          let fit : fit_together run.capacity (all_tables run ws) ≡ true = sym out.0 ∙ is in
+          let ok : round_refusal run ws si ≡ 0 = own ∙ rw fit in
+          rw (out.1, fit) (rw (ok, round_many run), rw ok)

@@ -3,16 +3,14 @@
 use Prim.Native.Nat.{ℕ, zero, suc, ◌+◌, ◌*◌, ◌-◌, ◌/◌, ◌≤◌, ◌<◌}
 use native.Mathlib.Numerals.{add-one}
 use native.Mathlib.Omega.{arith}
-use mathlib.Core.Bool.{Bool, true, false, ◌&&◌, cond}
+use mathlib.Core.Bool.{Bool, true, false, cond}
 use mathlib.Core.Logic.{◌⊎◌, inl, inr}
 use mathlib.Core.Path.{◌≡◌, refl, sym, ap, ◌∙◌}
 use mathlib.Core.List.{List, [], ◌∷◌, ◌++◌, append_assoc, append-nil}
 use lib.ListN.{length, get_or, take, drop, set, length-set, length-append, length-drop}
-use lib.Seq.{drop-cons, take_all, take_at, take-suc-set, length-take-le}
+use lib.Seq.{drop-cons, take_all, take-suc-set, length-take-le}
 use lib.Dec.{ltb}
-use borrow.Author.Tests.{ltb-true, ltb-false, lt-ltb}
 use Rattle.rules.specs.meaning.Lengths.{join}
-use Rattle.rules.proofs.laws.table.View.{parts}
 use Rattle.rounds.specs.Unions.{beside, united, Whole, Laid, Ended}
 use Rattle.rounds.proofs.Uniting.{united_first, united_second, united_both}
 
@@ -28,9 +26,6 @@ laid_more out k e n h =
     let on : 2 * (k + 1) ≡ suc (2 * k + 1) = omega arith in
     rw on (take-suc-set (set out (2 * k) e) (2 * k + 1) n (simp length-set (omega arith))
     ∙ (rw (add-one (2 * k), take-suc-set out (2 * k) e (omega arith)) (append_assoc (take (2 * k) out) (e ∷ []) (n ∷ []))))
-
-pub laid_start : (a b out : List ℕ) → Laid a b out 0 0 0
-laid_start a b out = record { passed_one = omega arith; passed_other = omega arith; placed = omega arith; comes = refl }
 
 module _ (a b out : List ℕ) (i j k : ℕ) (so_far : Laid a b out i j k) (place : 2 * k + 2 ≤ length out) where
   -- one entry laid, and what is then left
@@ -74,22 +69,7 @@ module _ (a b out : List ℕ) (i j k : ℕ) (so_far : Laid a b out i j k) (place
     lay_both e = one_on id (join kept long) (i + 1) (j + 1) (omega arith) (omega arith)
         (both_next ∙ united_both mine kept id long (drop (2 * (i + 1)) a) (drop (2 * (j + 1)) b) e ∙ (rw e))
 
--- ---- where it goes on, and where it ends
-pub goes_on : (i ones j others k places : ℕ) → (ltb i ones && ltb j others) && ltb k places ≡ true → (i < ones) × (j < others) × (k < places)
-goes_on i ones j others k places h =
-    let a = parts (ltb i ones && ltb j others) _ h in
-    let b = parts (ltb i ones) _ a.0 in
-    (ltb-true _ _ b.0, ltb-true _ _ b.1, ltb-true _ _ a.1)
-
-pub ends : (i ones j others k places : ℕ) → (ltb i ones && ltb j others) && ltb k places ≡ false → Ended ones others places i j k
-ends i ones j others k places h p q = ltb-false _ _ (rw (lt-ltb i ones p, lt-ltb j others q) at h)
-
 -- ---- what is left at the end: entries of one table alone, unless there is no place
-pub appended : (out r last : List ℕ) (at : ℕ) → at + length r ≤ length out → last ≡ r → take (at + length r) (take at out ++ (last ++ drop (at + length r - at) (drop at out))) ≡ take at out ++ r
-appended out r last at fits is =
-    let head : length (take at out) ≡ at = length-take-le at out (omega arith) in
-    rw (is, ← append_assoc (take at out) r (drop (at + length r - at) (drop at out))) (take_at (take at out ++ r) (drop (at + length r - at) (drop at out)) (at + length r) (simp length-append (omega arith)))
-
 -- the rest of a list is all of it from there on
 pub to_end : (l : List ℕ) (at : ℕ) → take (length l - at) (drop at l) ≡ drop at l
 to_end l at = take_all (length l - at) (drop at l) (simp length-drop (omega arith))

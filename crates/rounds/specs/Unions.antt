@@ -1,7 +1,7 @@
 -- Entries of two tables side by side, each id once with the larger of its lengths: what the walk that gathers computes. Words of entries in use alone, id then
 -- length, with no unused place among them. Only contracts of this crate's own helpers cite it.
 -- Assumes nothing.
-use Rattle.std.specs.Prelude.{ℕ, ◌*◌, ◌-◌, ◌/◌, ◌≤◌, ◌<◌, Bool, cond, ◌≡◌, List, [], ◌∷◌, ◌++◌, length, take, drop, replicate, ltb}
+use Rattle.std.specs.Prelude.{ℕ, ◌*◌, ◌-◌, ◌/◌, ◌≤◌, ◌<◌, cond, ◌≡◌, List, [], ◌∷◌, ◌++◌, length, take, drop, replicate, ltb, Option, MatchOption}
 use Rattle.rules.specs.meaning.Lengths.{join}
 use Rattle.rules.specs.meaning.Table.{held}
 
@@ -21,10 +21,7 @@ united (e ∷ n ∷ t) s = beside e n t (united t) s
 abbrev pub in_use : List ℕ → List ℕ
 in_use t = take (2 * held t) t
 
--- ---- two rooms, of which the far or the near one is meant, and so many entries in front of a room
-abbrev pub room_of : Bool → List ℕ → List ℕ → List ℕ
-room_of b near far = cond b far near
-
+-- so many entries in front of a room
 abbrev pub front : ℕ → List ℕ → List ℕ
 front n room = take (2 * n) room
 
@@ -32,9 +29,9 @@ front n room = take (2 * n) room
 abbrev pub padded : ℕ → ℕ → List ℕ → List ℕ
 padded c n t = t ++ replicate (2 * (c - n)) 0
 
--- the entries of both, r of them, stand in front of a room; or there are more than its c places of w words
-abbrev pub Joins : ℕ → ℕ → ℕ → List ℕ → List ℕ → List ℕ → Type 0
-Joins c w r one other room = (r ≤ c → (2 * r ≡ length (united one other)) × (front r room ≡ united one other)) × (c < r → w < length (united one other))
+-- the entries of both stand in front of a room, so many of them; or there are more than its places of w words
+abbrev pub Joins : ℕ → Option ℕ → List ℕ → List ℕ → List ℕ → Type 0
+Joins w r one other room = MatchOption r (w < length (united one other)) (λ n. (2 * n ≤ w) × (2 * n ≡ length (united one other)) × (front n room ≡ united one other))
 
 -- so many words are whole entries
 abbrev pub Whole : ℕ → Type 0

@@ -1,6 +1,6 @@
 -- What a repair round answers, and which words it leaves, by what is seen besides the words.
 -- Assumes nothing.
-use Rattle.std.specs.Prelude.{ℕ, zero, suc, ◌-◌, ◌≡◌, Bool, cond, List, [], ◌++◌, length}
+use Rattle.std.specs.Prelude.{ℕ, zero, suc, ◌-◌, ◌≤◌, ◌≡◌, Bool, cond, List, [], ◌++◌, length}
 use Rattle.rules.specs.meaning.Operations.{Answer}
 use Rattle.rules.specs.declared.Run.{Run}
 use Rattle.rules.specs.declared.Sight.{Sight}
@@ -9,6 +9,12 @@ use Rattle.rules.specs.meaning.States.{table_at}
 use Rattle.rules.specs.meaning.Ids.{fit_together}
 use Rattle.rules.specs.meaning.Rounds.{in_turn, all_tables, round_merges, round_refusal}
 use Rattle.rules.specs.meaning.Repairs.{taken_in}
+use Rattle.steps.specs.Verdicts.{Ready}
+
+-- what the judge leaves to a round: words of the right sizes, sound tables, and one site at least
+pub record Repairable (run : Run) (ws : List ℕ) : Type 0 where
+  pub ready : Ready run ws
+  pub some : 1 ≤ run.sites
 
 -- a table so many times, one after the other
 unfoldable pub copies : ℕ → List ℕ → List ℕ

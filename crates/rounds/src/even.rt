@@ -1,65 +1,70 @@
-// All tables evened out: gathered beside the words, and where they fit handed out.
+// All tables evened out. What they come to is found beside the words: nothing that is lent is written before it is known to fit.
 ghost use Rattle.std.specs.Prelude.{◌≡◌, ◌≤◌, length};
 ghost use Rattle.rules.specs.meaning.States.{width};
-ghost use Rattle.steps.specs.Verdicts.{Ready};
-ghost use Rattle.rounds.specs.Values.{Evened};
+ghost use Rattle.rounds.specs.Values.{Repairable, Evened};
 
-use crate::gather::gather;
 use crate::hand::settle;
+use crate::level::level;
+use crate::tables::in_use;
+use crate::union::unite;
 use rules::{GROUP_WORDS, Run, TABLE_WORDS};
+use std::mem::swap;
 
-// In two rooms of a table's size. Whether all tables fit one together; where they do not, no word is written.
-fn even_in(words: &mut [u64], run: Run, near: &mut [u64], far: &mut [u64]) -> bool
-    requires ready { Ready run words.old }
-    requires le_sites { 1 ≤ run.sites }
-    requires near_len { (length near.old ≡ width run) × (length far.old ≡ width run) }
+// Site 0's entries stand in one of two rooms, and those of the others are joined in, in rising order, as long as there are places: the rooms take turns, and
+// what stands in the one goes, with the next table, into the other. Whether all fit one together; where they do not, no word is written.
+fn even_in<'a>(
+    words: &mut [u64],
+    run: Run,
+    mut here: &'a mut [u64],
+    mut there: &'a mut [u64],
+) -> bool
+    requires repairable { Repairable run words.old }
+    requires wide { (length here.old ≡ width run) × (length there.old ≡ width run) }
     ensures { Evened run words.old result words.new }
 {
-    let stand = gather(words, run, near, far);
-    if (run.capacity as usize) < stand.entries {
-        return false;
+    let own = in_use(words, run, 0);
+    here[..own.len()].copy_from_slice(own);
+    let mut entries = own.len() / 2;
+    for site in 1..run.sites {
+        let own = in_use(words, run, site);
+        let Some(joined) = unite(&here[..2 * entries], own, there) else {
+            return false;
+        };
+        entries = joined;
+        swap(&mut here, &mut there);
     }
-    if stand.far {
-        settle(words, run, far, stand.entries);
-        return true;
-    }
-    settle(words, run, near, stand.entries);
+    settle(words, run, here, entries);
     true
 }
 
-// Rooms for the largest tables.
-fn even_large(words: &mut [u64], run: Run) -> bool
-    requires ready { Ready run words.old }
-    requires le_sites { 1 ≤ run.sites }
+// A room is cleared before it is lent, and a small one in a fraction of the time.
+fn even_in_rooms<const WORDS: usize>(words: &mut [u64], run: Run) -> bool
+    requires repairable { Repairable run words.old }
+    requires within { (width run ≤ WORDS) × (WORDS ≤ 4096) }
     ensures { Evened run words.old result words.new }
 {
-    let mut near = [0u64; TABLE_WORDS];
-    let mut far = [0u64; TABLE_WORDS];
+    let mut here = [0; WORDS];
+    let mut there = [0; WORDS];
     let wide = 2 * run.capacity as usize;
-    even_in(words, run, &mut near[..wide], &mut far[..wide])
-}
-
-// Rooms for tables of up to 64 entries: a room is cleared before it is lent, and these in a fraction of the time.
-fn even_small(words: &mut [u64], run: Run) -> bool
-    requires ready { Ready run words.old }
-    requires le_sites { 1 ≤ run.sites }
-    requires run_bound { width run ≤ 128 }
-    ensures { Evened run words.old result words.new }
-{
-    let mut near = [0u64; GROUP_WORDS];
-    let mut far = [0u64; GROUP_WORDS];
-    let wide = 2 * run.capacity as usize;
-    even_in(words, run, &mut near[..wide], &mut far[..wide])
+    even_in(words, run, &mut here[..wide], &mut there[..wide])
 }
 
 // Which rooms it is, is asked once.
-pub(crate) fn even_out(words: &mut [u64], run: Run) -> bool
-    requires ready { Ready run words.old }
-    requires le_sites { 1 ≤ run.sites }
+fn even_beside(words: &mut [u64], run: Run) -> bool
+    requires { Repairable run words.old }
     ensures { Evened run words.old result words.new }
 {
     if 2 * run.capacity as usize <= GROUP_WORDS {
-        return even_small(words, run);
+        even_in_rooms::<GROUP_WORDS>(words, run)
+    } else {
+        even_in_rooms::<TABLE_WORDS>(words, run)
     }
-    even_large(words, run)
+}
+
+// Tables that are equal already are only read.
+pub(crate) fn even_out(words: &mut [u64], run: Run) -> bool
+    requires { Repairable run words.old }
+    ensures { Evened run words.old result words.new }
+{
+    level(words, run) || even_beside(words, run)
 }

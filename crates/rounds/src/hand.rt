@@ -8,43 +8,15 @@ ghost use Rattle.rounds.specs.Values.{copies};
 use rules::Run;
 use steps::part_of;
 
-// The words of one table over those of another.
-pub(crate) fn copy(to: &mut [u64], from: &[u64])
-    requires { length to.old ≡ length from.now }
-    ensures { to.new ≡ from.now }
-{
-    let mut k: usize = 0;
-    while k < from.len() {
-        to[k] = from[k];
-        k += 1;
-    }
-}
-
 // Every site's table is then this one.
 fn hand_out(words: &mut [u64], run: Run, all: &[u64])
     requires sized { Sized run (length words.old) }
     requires all_len { length all.now ≡ width run }
     ensures { words.new ≡ copies run.sites all.now }
 {
-    let mut site: u64 = 0;
-    while site < run.sites {
+    for site in 0..run.sites {
         let part = part_of(run, site);
-        let from = part.from;
-        let to = part.to;
-        copy(&mut words[from..to], all);
-        site += 1;
-    }
-}
-
-// Every word from one on is 0.
-fn clear(all: &mut [u64], from: usize)
-    requires { from ≤ length all.old }
-    ensures { all.new ≡ take from all.old ++ replicate (length all.old - from) 0 }
-{
-    let mut k = from;
-    while k < all.len() {
-        all[k] = 0;
-        k += 1;
+        words[part.from..part.to].copy_from_slice(all);
     }
 }
 
@@ -54,6 +26,6 @@ pub(crate) fn settle(words: &mut [u64], run: Run, all: &mut [u64], entries: usiz
     requires all_len { (length all.old ≡ width run) × (entries ≤ run.capacity) }
     ensures { words.new ≡ copies run.sites (padded run.capacity entries (front entries all.old)) }
 {
-    clear(all, 2 * entries);
+    all[2 * entries..].fill(0);
     hand_out(words, run, all);
 }

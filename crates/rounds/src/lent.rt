@@ -12,9 +12,7 @@ use rules::{Answer, Ledger, NO_LINK, Parcel, Run};
 pub fn repair(words: &mut [u64], slots: &[Parcel], ledger: &Ledger, run: Run) -> Answer
     ensures { Happened run (lent words.old slots.now ledger.now) round result (lent words.new slots.now ledger.now) }
 {
-    let n = slots.len();
-    let sites = run.sites;
-    let scan = scan_slots(slots, sites);
-    let books = see(ledger, sites, NO_LINK);
-    repair_seen(words, run, scan, n, books)
+    let scan = scan_slots(slots, run.sites);
+    let books = see(ledger, run.sites, NO_LINK);
+    repair_seen(words, run, scan, slots.len(), books)
 }

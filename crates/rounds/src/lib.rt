@@ -3,11 +3,11 @@
 #![tactic(auto)]
 
 mod even;
-mod gather;
 mod hand;
 mod lent;
 mod level;
 mod seen;
+mod tables;
 mod union;
 
 pub use lent::repair;

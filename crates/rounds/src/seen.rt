@@ -5,7 +5,6 @@ ghost use Rattle.judge.specs.Judged.{seen_as};
 ghost use Rattle.rounds.specs.Values.{answer_seen, words_seen};
 
 use crate::even::even_out;
-use crate::level::level;
 use judge::judge_seen;
 use rules::{Answer, Run, Scan, Seen};
 
@@ -30,7 +29,7 @@ fn accept(run: Run) -> Answer
     }
 }
 
-// 1 or 2; then 8 before any write. Tables that are equal already are only read.
+// 1 or 2; then 8 before any write.
 pub(crate) fn repair_seen(
     words: &mut [u64],
     run: Run,
@@ -44,11 +43,9 @@ pub(crate) fn repair_seen(
     if judged != 0 {
         return refuse(judged);
     }
-    if level(words, run) {
-        return accept(run);
-    }
     if even_out(words, run) {
-        return accept(run);
+        accept(run)
+    } else {
+        refuse(8)
     }
-    refuse(8)
 }

@@ -2,11 +2,10 @@
 ghost use Rattle.std.specs.Prelude.{◌≡◌, ◌+◌, ◌*◌, ◌/◌, ◌≤◌, ◌<◌, ◌++◌, length as size, take, set};
 ghost use Rattle.rounds.specs.Unions.{Joins, Laid, Whole, Ended};
 
-use crate::hand::copy;
 use lengths::join;
 
 // How far the walk has come: the entries passed of the one and of the other, and those that are laid.
-#[derive(Clone, Copy)]
+#[derive(Clone, Copy, Default)]
 struct Passed {
     one: usize,
     other: usize,
@@ -37,16 +36,16 @@ fn turn(one: &[u64], other: &[u64], out: &mut [u64], at: Passed) -> Passed
         lay(out, at.laid, mine, kept);
         return Passed {
             one: at.one + 1,
-            other: at.other,
             laid: at.laid + 1,
+            ..at
         };
     }
     if id < mine {
         lay(out, at.laid, id, length);
         return Passed {
-            one: at.one,
             other: at.other + 1,
             laid: at.laid + 1,
+            ..at
         };
     }
     lay(out, at.laid, id, join(kept, length));
@@ -66,25 +65,11 @@ fn walk(one: &[u64], other: &[u64], out: &mut [u64]) -> Passed
     let ones = one.len() / 2;
     let others = other.len() / 2;
     let places = out.len() / 2;
-    let mut i: usize = 0;
-    let mut j: usize = 0;
-    let mut k: usize = 0;
-    while (i < ones) & (j < others) & (k < places) {
-        let at = Passed {
-            one: i,
-            other: j,
-            laid: k,
-        };
-        let next = turn(one, other, out, at);
-        i = next.one;
-        j = next.other;
-        k = next.laid;
+    let mut at = Passed::default();
+    while (at.one < ones) & (at.other < others) & (at.laid < places) {
+        at = turn(one, other, out, at);
     }
-    Passed {
-        one: i,
-        other: j,
-        laid: k,
-    }
+    at
 }
 
 // The rest of either stands behind what is laid.
@@ -93,26 +78,23 @@ fn append(out: &mut [u64], at: usize, rest: &[u64])
     requires out_bound { size out.old ≤ 4096 }
     ensures { take (at + size rest.now) out.new ≡ take at out.old ++ rest.now }
 {
-    let end = at + rest.len();
-    copy(&mut out[at..end], rest);
+    out[at..at + rest.len()].copy_from_slice(rest);
 }
 
-// All entries of both, where there are places for them: how many, and one more than there are places where there are not.
-pub(crate) fn unite(one: &[u64], other: &[u64], out: &mut [u64]) -> usize
+// All entries of both, and how many they are; or none, where there are not places for all of them.
+pub(crate) fn unite(one: &[u64], other: &[u64], out: &mut [u64]) -> Option<usize>
     requires whole { Whole (size one.now) × Whole (size other.now) × Whole (size out.old) }
     requires one_bound { (size one.now ≤ 4096) × (size other.now ≤ 4096) × (size out.old ≤ 4096) }
-    ensures { Joins (size out.old / 2) (size out.old) result one.now other.now out.new }
+    ensures { Joins (size out.old) result one.now other.now out.new }
 {
     let at = walk(one, other, out);
     let places = out.len() / 2;
     let ones = one.len() / 2 - at.one;
     let others = other.len() / 2 - at.other;
     if places - at.laid < ones + others {
-        return places + 1;
+        return None;
     }
-    let from = 2 * at.one;
-    append(out, 2 * at.laid, &one[from..]);
-    let start = 2 * at.other;
-    append(out, 2 * at.laid + 2 * ones, &other[start..]);
-    at.laid + ones + others
+    append(out, 2 * at.laid, &one[2 * at.one..]);
+    append(out, 2 * at.laid + 2 * ones, &other[2 * at.other..]);
+    Some(at.laid + ones + others)
 }

@@ -10,13 +10,41 @@ ghost use Rattle.rules.specs.meaning.Events.{absorbs, round, Happened};
 ghost use Rattle.rules.specs.meaning.Groups.{Written, Entered};
 ghost use Rattle.rules.specs.meaning.Lags.{lag_answer};
 ghost use Rattle.rules.specs.meaning.Members.{Answered};
+ghost use Rattle.rules.specs.meaning.Refusals.{number_in, value_in};
 ghost use Rattle.rules.specs.meaning.Reports.{Told};
 ghost use Rattle.rules.specs.meaning.States.{lent};
 ghost use Rattle.rules.specs.meaning.Runs.{Freshened};
 ghost use Rattle.rules.specs.meaning.Writing.{check_of, Filled};
 
 use lines::step_for;
-use rules::{Ledger, Parcel, Run};
+use rules::{Ledger, Parcel, Refusal, Run};
+
+// The number that C is given: 0, or that of the refusal.
+fn number(answer: Result<(), Refusal>) -> u32
+    ensures { result ≡ number_in answer }
+{
+    match answer {
+        Ok(()) => 0,
+        Err(refusal) => refusal as u32,
+    }
+}
+
+// The same of an answer with a value, which C finds at a place of its own; on a refusal `none` stands there.
+fn hand_over<T: Copy>(answer: Result<T, Refusal>, none: T, place: &mut T) -> u32
+    ensures number { result ≡ number_in answer }
+    ensures value { place.new ≡ value_in none answer }
+{
+    match answer {
+        Ok(value) => {
+            *place = value;
+            0
+        }
+        Err(refusal) => {
+            *place = none;
+            refusal as u32
+        }
+    }
+}
 
 // A fresh run of these sizes: "every word, slot and counter 0", and each link at the first serial.
 #[unsafe(no_mangle)]
@@ -140,7 +168,7 @@ pub extern "C" fn wg_repair(
 pub extern "C" fn wg_members(table: &[u64], ids: &[u64], answers: &mut [u8]) -> u32
     ensures { Answered table.now ids.now answers.old result answers.new }
 {
-    members::members(table, ids, answers)
+    number(members::members(table, ids, answers))
 }
 
 // A step line read into an area of 32 bytes or more: its four numbers.
@@ -148,7 +176,7 @@ pub extern "C" fn wg_members(table: &[u64], ids: &[u64], answers: &mut [u8]) -> 
 pub extern "C" fn wg_read_line(line: &[u8], area: &mut [u8]) -> u32
     ensures { (result ≡ read_refusal line.now area.old) × (area.new ≡ area_after line.now area.old) }
 {
-    lines::read_into(line, area)
+    number(lines::read_into(line, area))
 }
 
 // Whether four numbers can be written as a line into so much room.
@@ -156,7 +184,7 @@ pub extern "C" fn wg_read_line(line: &[u8], area: &mut [u8]) -> u32
 pub extern "C" fn wg_check_line(kind: u64, first: u64, second: u64, id: u64, room: usize) -> u32
     ensures { result ≡ check_of kind first second id room }
 {
-    lines::check_line(kind, first, second, id, room)
+    number(lines::check_line(kind, first, second, id, room))
 }
 
 // The line of four numbers at the front of the buffer: how many bytes it has, 0 where it is refused.
@@ -178,9 +206,7 @@ pub extern "C" fn wg_write_line(
 pub extern "C" fn wg_report(input: &[u8], out: &mut [u8], written: &mut usize) -> u32
     ensures { Told input.now out.old (record { refusal = result; written = written.new }) out.new }
 {
-    let told = report::report(input, out);
-    *written = told.written;
-    told.refusal
+    hand_over(report::report(input, out), 0, written)
 }
 
 // A group's entries written as bytes at the front of the buffer, and how many bytes it has.
@@ -188,9 +214,7 @@ pub extern "C" fn wg_report(input: &[u8], out: &mut [u8], written: &mut usize) -
 pub extern "C" fn wg_write_group(entries: &[u64], out: &mut [u8], written: &mut usize) -> u32
     ensures { Written entries.now out.old (record { refusal = result; count = written.new }) out.new }
 {
-    let told = groups::write_group(entries, out);
-    *written = told.count;
-    told.refusal
+    hand_over(groups::write_group(entries, out), 0, written)
 }
 
 // The entries of the group that bytes form at the front of the words that are lent, and how many they are.
@@ -198,7 +222,5 @@ pub extern "C" fn wg_write_group(entries: &[u64], out: &mut [u8], written: &mut 
 pub extern "C" fn wg_read_group(bytes: &[u8], entries: &mut [u64], count: &mut usize) -> u32
     ensures { Entered bytes.now entries.old (record { refusal = result; count = count.new }) entries.new }
 {
-    let told = groups::read_group(bytes, entries);
-    *count = told.count;
-    told.refusal
+    hand_over(groups::read_group(bytes, entries), 0, count)
 }

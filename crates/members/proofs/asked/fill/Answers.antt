@@ -9,7 +9,7 @@ loop-i-init c = filled_none _ _ _
 pub loop-i-preserved : goal.loop-i-preserved
 loop-i-preserved c =
     rw (c.eight.ensures, c.min-end.ensures, of_byte c.args.ids.now c.loop-i.i)
-        (filled_more _ _ _ c.loop-i.i _ (omega (arith, c.loop-i-test.true, c.bytes_for-i-end.ensures)) c.requires.2 c.loop-i.invariant)
+    (filled_more _ _ _ c.loop-i.i _ (omega (arith, c.loop-i-test.true, c.bytes_for-i-end.ensures)) c.requires.2 c.loop-i.invariant)
 
 pub returns : goal.returns
 returns c = filled_all _ _ _ c.loop-i.i _ (omega (arith, c.loop-i-test.false, c.bytes_for-i-end.ensures)) c.loop-i.invariant

@@ -12,7 +12,7 @@ returns-then-places-at c =
     let as_long : length w.new.out ≡ length a.out.now = w.auto.out in
     let whole_out : Whole (length w.new.out) = rw as_long c.requires.whole.2 in
     let full = laid_full a.one.now a.other.now w.new.out _ _ _ w.ensures.laid c.requires.whole.0 c.requires.whole.1 whole_out w.ensures.ended c.if-places-at.true in
-    (λ fits. absurd (omega (arith, as_long)), λ _. rw (← as_long) full)
+    rw (← as_long) full
 
 -- all are laid
 pub returns : goal.returns
@@ -22,4 +22,4 @@ returns c =
     let as_long : length w.new.out ≡ length a.out.now = w.auto.out in
     let whole_out : Whole (length w.new.out) = rw as_long c.requires.whole.2 in
     let all = laid_end a.one.now a.other.now w.new.out _ _ _ w.ensures.laid c.requires.whole.0 c.requires.whole.1 whole_out w.ensures.ended c.if-places-at.false _ _ _ _ (to_end a.one.now (2 * w.result.one)) (to_end a.other.now (2 * w.result.other)) c.append.ensures c.append-2.ensures in
-    (λ _. all, λ many. absurd (omega (arith, c.if-places-at.false, w.ensures.laid.placed, as_long)))
+    (omega (arith, c.if-places-at.false, w.ensures.laid.placed, as_long), all.0, all.1)

@@ -5,8 +5,8 @@ use lib.ListN.{length}
 use Rattle.rounds.specs.Unions.{Laid}
 use Rattle.rounds.proofs.union.walk.Given as goal
 
-abbrev pub invariant-loop-i : goal.invariant-loop-i
-invariant-loop-i l = Laid l.one l.other l.out l.i l.j l.k × (length l.out ≡ length l.initial.out)
+abbrev pub invariant-loop-at : goal.invariant-loop-at
+invariant-loop-at l = Laid l.one l.other l.out l.at.one l.at.other l.at.laid × (length l.out ≡ length l.initial.out)
 
-abbrev pub decreases-loop-i : goal.decreases-loop-i
-decreases-loop-i l = l.places - l.k
+abbrev pub decreases-loop-at : goal.decreases-loop-at
+decreases-loop-at l = l.places - l.at.laid
