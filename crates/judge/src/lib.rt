@@ -5,6 +5,7 @@
 ghost use Rattle.std.specs.Prelude.{◌≡◌, ◌*◌, length};
 ghost use Rattle.rules.specs.meaning.Lengths.{M};
 ghost use Rattle.rules.specs.meaning.Parcels.{no_parcel};
+ghost use Rattle.rules.specs.meaning.Refusals.{number_in};
 ghost use Rattle.rules.specs.meaning.States.{sizes_right, tables_sound, all_sound};
 ghost use Rattle.judge.specs.Judged.{Sized, seen_as, judgement};
 
@@ -65,8 +66,8 @@ fn all_sound(words: &[u64], run: Run, seen: Sight) -> bool
 }
 
 // 1, 2, or 0 where neither is given.
-fn judge(words: &[u64], run: Run, seen: Sight) -> u32
-    ensures { result ≡ judgement run words.now seen }
+fn judge(words: &[u64], run: Run, seen: Sight) -> Result<(), Refusal>
+    ensures { number_in result ≡ judgement run words.now seen }
 {
     if sizes_right(run, words.len(), seen.count) {
         if all_sound(words, run, seen) {
@@ -78,8 +79,8 @@ fn judge(words: &[u64], run: Run, seen: Sight) -> u32
 }
 
 // The same from the parts that a function has which is lent all three.
-pub fn judge_seen(words: &[u64], run: Run, scan: Scan, slots: usize, books: Seen) -> u32
-    ensures { result ≡ judgement run words.now (seen_as scan no_parcel slots books) }
+pub fn judge_seen(words: &[u64], run: Run, scan: Scan, slots: usize, books: Seen) -> Result<(), Refusal>
+    ensures { number_in result ≡ judgement run words.now (seen_as scan no_parcel slots books) }
 {
     let none = no_parcel();
     let seen = Sight {

@@ -1,11 +1,11 @@
 // Entries joined into a table from a slice of their own.
 ghost use Rattle.std.specs.Prelude.{◌≡◌, get_or};
 ghost use Rattle.rules.specs.meaning.Table.{SoundTable, merged};
-ghost use Rattle.rules.specs.meaning.Operations.{merge_answer, merge_table};
+ghost use Rattle.rules.specs.meaning.Operations.{as_answer, merge_answer, merge_table};
 ghost use Rattle.merging.specs.Walks.{Joining};
 
 use crate::turns::{Left, slide, turn};
-use rules::Answer;
+use rules::Refusal;
 use tally::{FEW, count, told};
 
 // The table is filled from the back until no entry is left to join in: what is left of the table then stands in its place.
@@ -39,17 +39,16 @@ fn fill(table: &mut [u64], entries: &[u64], left: Left)
 
 // Each entry of another table is joined in, all or none: for each id the larger length. The answer's value is the number of lengths
 // that rose; where none does, nothing is written.
-pub fn merge(table: &mut [u64], entries: &[u64]) -> Answer
+pub fn merge(table: &mut [u64], entries: &[u64]) -> Result<u64, Refusal>
     requires sound_table { SoundTable table.old }
     requires sound_table_2 { SoundTable entries.now }
-    ensures value { result ≡ merge_answer table.old entries.now }
+    ensures value { as_answer result ≡ merge_answer table.old entries.now }
     ensures table_after { table.new ≡ merge_table table.old entries.now }
 {
     let comes = count(table, entries);
-    let said = told(comes, table.len() / 2);
-    if said.value == 0 {
-        return said;
+    let rose = told(comes, table.len() / 2)?;
+    if 0 < rose {
+        fill(table, entries, Left::from(comes));
     }
-    fill(table, entries, Left::from(comes));
-    said
+    Ok(rose)
 }

@@ -1,12 +1,12 @@
 // A table joined into another one that stands in the same words: the source is read where it stands.
 ghost use Rattle.std.specs.Prelude.{◌≡◌, ℕ, ◌≤◌, ◌<◌, List, true, length as size};
 ghost use Rattle.rules.specs.meaning.Table.{SoundTable, held, rises, merged, held_merged};
-ghost use Rattle.rules.specs.meaning.Operations.{merge_answer, merge_table};
+ghost use Rattle.rules.specs.meaning.Operations.{as_answer, merge_answer, merge_table};
 ghost use Rattle.merging.specs.Walks.{Apart, Filling, part_at, with_part, same_ids};
 
 use crate::turns::{Left, put, settle, turn};
 use lengths::join;
-use rules::Answer;
+use rules::Refusal;
 use tally::{Tally, alike, count, told};
 
 // Where the two tables stand in the words, and how many words each has.
@@ -139,19 +139,18 @@ impl Places {
 }
 
 // The table that stands at a word is joined into the one that stands at another, all or none, as by `merge`. No word outside of the latter is written.
-pub fn merge_within(words: &mut [u64], to: usize, from: usize, wide: usize) -> Answer
+pub fn merge_within(words: &mut [u64], to: usize, from: usize, wide: usize) -> Result<u64, Refusal>
     requires apart { Apart (size words.old) to from wide }
     requires sound_table { SoundTable (part_at words.old to wide) }
     requires sound_table_2 { SoundTable (part_at words.old from wide) }
-    ensures value { result ≡ merge_answer (part_at words.old to wide) (part_at words.old from wide) }
+    ensures value { as_answer result ≡ merge_answer (part_at words.old to wide) (part_at words.old from wide) }
     ensures words_after { words.new ≡ with_part words.old to wide (merge_table (part_at words.old to wide) (part_at words.old from wide)) }
 {
     let places = Places { to, from, wide };
     let comes = places.survey(words);
-    let said = told(comes, wide / 2);
-    if said.value == 0 {
-        return said;
+    let rose = told(comes, wide / 2)?;
+    if 0 < rose {
+        places.fill(words, Left::from(comes));
     }
-    places.fill(words, Left::from(comes));
-    said
+    Ok(rose)
 }
