@@ -9,11 +9,7 @@ use rules::Run;
 fn zero_words(words: &mut [u64])
     ensures { words.new ≡ replicate (length words.old) 0 }
 {
-    let mut i = 0;
-    while i < words.len() {
-        words[i] = 0;
-        i += 1;
-    }
+    words.fill(0);
 }
 
 // The words of a fresh run, or a refusal.
