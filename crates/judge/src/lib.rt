@@ -5,6 +5,7 @@
 ghost use Rattle.std.specs.Prelude.{◌≡◌, ◌*◌, length};
 ghost use Rattle.rules.specs.meaning.Lengths.{M};
 ghost use Rattle.rules.specs.meaning.Parcels.{no_parcel};
+ghost use Rattle.rules.specs.meaning.Refusals.{number_in};
 ghost use Rattle.rules.specs.meaning.States.{sizes_right, tables_sound, all_sound};
 ghost use Rattle.judge.specs.Judged.{Sized, seen_as, judgement};
 
@@ -50,21 +51,21 @@ fn all_sound(words: &[u64], run: Run, seen: Sight) -> bool
 
 // 1, 2, or 0 where neither is given.
 #[tactic(auto, using(crate::proofs::Judging::sized), unfolding(crate::specs::Judged::judgement, rules::specs::meaning::Refusals::first_given))]
-fn judge(words: &[u64], run: Run, seen: Sight) -> u32
-    ensures { result ≡ judgement run words.now seen }
+fn judge(words: &[u64], run: Run, seen: Sight) -> Result<(), Refusal>
+    ensures { number_in result ≡ judgement run words.now seen }
 {
     if !sizes_right(run, words.len(), seen.count) {
-        Refusal::BadSizes as u32
+        Err(Refusal::BadSizes)
     } else if !all_sound(words, run, seen) {
-        Refusal::Unsound as u32
+        Err(Refusal::Unsound)
     } else {
-        0
+        Ok(())
     }
 }
 
 // The same from the parts that a function has which is lent all three.
-pub fn judge_seen(words: &[u64], run: Run, scan: Scan, slots: usize, books: Seen) -> u32
-    ensures { result ≡ judgement run words.now (seen_as scan no_parcel slots books) }
+pub fn judge_seen(words: &[u64], run: Run, scan: Scan, slots: usize, books: Seen) -> Result<(), Refusal>
+    ensures { number_in result ≡ judgement run words.now (seen_as scan no_parcel slots books) }
 {
     let seen = Sight {
         scan,
