@@ -1,6 +1,6 @@
 -- A merge inside the words: what is read of the two tables there, and what a turn makes of the words.
 -- Assumes nothing.
-use Prim.Native.Nat.{ℕ, zero, suc, ◌+◌, ◌*◌, ◌-◌, ◌≤◌, ◌<◌, max}
+use Prim.Native.Nat.{ℕ, suc, ◌+◌, ◌*◌, ◌-◌, ◌≤◌, ◌<◌, max}
 use native.Mathlib.Omega.{arith}
 use mathlib.Core.Path.{◌≡◌, refl, sym, ap, ◌∙◌}
 use mathlib.Core.Logic.{◌⊎◌, ⊎_elim, inl, inr}
@@ -19,10 +19,6 @@ part_word ws at wide q l = get_or-take wide (drop at ws) q 0 l ∙ get_or-drop a
 
 pub part_length : (ws : List ℕ) (at wide : ℕ) → at + wide ≤ length ws → length (part_at ws at wide) ≡ wide
 part_length ws at wide h = length-take-le wide (drop at ws) (simp length-drop (omega arith))
-
--- a part by its end
-pub as_long : (at wide : ℕ) → at + wide - at ≡ wide
-as_long at wide = omega arith
 
 -- a part put back where it stood
 pub own_part : (ws : List ℕ) (at wide : ℕ) → ws ≡ take at ws ++ (part_at ws at wide ++ drop wide (drop at ws))
@@ -68,16 +64,10 @@ module _ {ws : List ℕ} {to from wide : ℕ} {us : List ℕ} {i j p : ℕ} (f :
   length_s = part_length ws from wide f.tables.fits_from
 
   -- the bounds that code asks for
-  pub place_in : to + 2 * p ≤ to + wide
-  place_in = omega (arith, f.joining.so_far.fit, length_t)
-
-  pub table_in : to + wide ≤ length us
-  table_in = omega (arith, f.tables.fits_to, f.size)
-
-  pub fits_place : to + 2 * p ≤ length us
+  fits_place : to + 2 * p ≤ length us
   fits_place = omega (arith, f.joining.so_far.fit, length_t, f.tables.fits_to, f.size)
 
-  pub fits_others : from + 2 * j ≤ length us
+  fits_others : from + 2 * j ≤ length us
   fits_others = omega (arith, f.joining.so_far.fit_s, length_s, f.tables.fits_from, f.size)
 
   -- the words of the table that are left, and the source's

@@ -12,7 +12,8 @@ use table::held;
 pub(crate) fn table_at(words: &[u64], run: Run, site: u64) -> &[u64]
     requires ready { Ready run words.now }
     requires inside { site < run.sites }
-    ensures { result.now ≡ table_at run words.now site }
+    ensures value { result.now ≡ table_at run words.now site }
+    ensures wide { length result.now ≡ width run }
 {
     let part = part_of(run, site);
     &words[part.from..part.to]

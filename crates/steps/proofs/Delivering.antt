@@ -4,8 +4,7 @@ use Prim.Native.Nat.{ℕ, zero, suc, ◌<◌}
 use mathlib.Core.Bool.{true, false}
 use mathlib.Core.Path.{◌≡◌, refl}
 use mathlib.Core.List.{List}
-use lib.Dec.{leb}
-use borrow.Author.Tests.{eq-eqb, ne_eqb, not-false}
+use borrow.Author.Tests.{eq-eqb, ne_eqb}
 use Rattle.rules.specs.declared.Run.{Run}
 use Rattle.rules.specs.meaning.Operations.{Answer}
 use Rattle.rules.specs.declared.Pair.{Pair}
@@ -15,19 +14,13 @@ use Rattle.rules.specs.meaning.Lengths.{M}
 use Rattle.rules.specs.meaning.Table.{raised}
 use Rattle.rules.specs.meaning.Operations.{answer, raise_refusal, raise_answer, raise_table, absorb_answer, absorb_table}
 use Rattle.rules.specs.meaning.Parcels.{no_parcel}
-use Rattle.rules.proofs.laws.run.Slots.{occupied_has}
 use Rattle.rules.specs.meaning.Links.{heard_pair, incomparable}
 use Rattle.rules.specs.meaning.Ledgers.{absorbed_counter}
 use Rattle.rules.specs.meaning.Refusals.{first_given}
 use Rattle.rules.specs.meaning.States.{table_at, with_table}
 use Rattle.rules.specs.meaning.Steps.{frees, nothing_there, no_room, length_delivered, effect}
-use Rattle.rules.proofs.laws.run.Steps.{neither}
 use Rattle.steps.specs.Verdicts.{refused_verdict, verdict, delivered, step_refusal, step_verdict, step_words}
 use Rattle.steps.proofs.Tables.{kept}
-
--- ---- a parcel that is there has a site of the run
-pub its_site : (run : Run) (si : Sight) (i : ℕ) → nothing_there run si i ≡ false → si.named.site < run.sites
-its_site run si i h = (occupied_has M run.sites si.named (not-false _ (neither (leb si.count i) _ h).1)).2
 
 -- ---- the verdict by the table's answer
 pub settle_taken : (a : Answer) (slot count link : ℕ) (pair : Pair) → a.refusal ≡ 0

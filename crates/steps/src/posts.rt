@@ -1,5 +1,5 @@
 // The steps on parcels that change no table: send, again and lose.
-ghost use Rattle.std.specs.Prelude.{◌≡◌, not, List, ℕ};
+ghost use Rattle.std.specs.Prelude.{◌≡◌, ◌<◌, not, true, List, ℕ};
 ghost use Rattle.rules.specs.declared.Step.TheVariants.{Send, Again, Lose};
 ghost use Rattle.rules.specs.meaning.Steps.{nothing_there};
 ghost use Rattle.steps.specs.Verdicts.{Ready, posted, step_verdict};
@@ -42,15 +42,15 @@ pub(crate) fn on_send(words: &[u64], run: Run, seen: Sight, from: u64, to: u64, 
     if let Err(refusal) = two_sites(run, from, to) {
         return refuse(refusal, seen);
     }
-    let own = &words[part_of(run, from)];
-    let Some(i) = table::lookup(own, id) else {
+    let length = table::query(&words[part_of(run, from)], id);
+    if length == 0 {
         return refuse(Refusal::NothingToSend, seen);
-    };
+    }
     let pair = seen.books.pair;
     let parcel = Parcel {
         site: to,
         id,
-        length: own[2 * i + 1],
+        length,
         sender: from as u32,
         serial: pair.next,
     };
@@ -64,9 +64,10 @@ pub(crate) fn on_send(words: &[u64], run: Run, seen: Sight, from: u64, to: u64, 
     )
 }
 
-// Whether the named slot is there and occupied.
+// Whether the named slot is there and occupied. An occupied one names a site of the run.
 pub(crate) fn is_there(run: Run, seen: Sight, slot: u64) -> bool
-    ensures { result ≡ not (nothing_there run seen slot) }
+    ensures value { result ≡ not (nothing_there run seen slot) }
+    ensures site { result ≡ true → seen.named.site < run.sites }
 {
     slot < seen.count as u64 && is_occupied(seen.named, run.sites)
 }

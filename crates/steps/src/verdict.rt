@@ -7,6 +7,7 @@ ghost use Rattle.steps.specs.Verdicts.{refused_verdict, table_verdict};
 use rules::{Answer, NO_LINK, Pair, Parcel, Refusal, Sight};
 
 // A slot number past the last slot sets nothing, nor does a link past the last entry, and counter 0 raises nothing.
+// The refusal and the counter stay numbers, as the contract of `decide` and that of `ledger::book` have them.
 #[derive(Clone, Copy)]
 pub struct Verdict {
     pub refusal: u32,

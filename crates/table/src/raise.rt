@@ -9,8 +9,8 @@ use crate::judge::held;
 use lengths::{after_add, after_remove, join};
 use rules::Refusal;
 
-// An id without an entry is given one: the entries with larger ids move on by one place. They are moved within the part that begins with them: so the compiler
-// makes one call of memmove, which it does not for words that begin inside of what it is given.
+// An id without an entry is given one: the entries with larger ids move on by one place. They move within the part that begins with them: of that the
+// compiler makes one call of memmove, which it does not where the same words move within the whole table.
 fn insert(table: &mut [u64], used: usize, id: u64, length: u64)
     requires sound_table { SoundTable table.old }
     requires used_value { used ≡ held table.old }

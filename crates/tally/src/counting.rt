@@ -61,10 +61,7 @@ impl Both<'_> {
                 };
             }
             if mine == id {
-                let more = rise(
-                    self.table[2 * at.own + 1],
-                    self.entries[2 * at.others + 1],
-                );
+                let more = rise(self.table[2 * at.own + 1], self.entries[2 * at.others + 1]);
                 return At {
                     own: at.own + 1,
                     others: at.others + 1,

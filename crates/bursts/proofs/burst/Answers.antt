@@ -10,9 +10,8 @@ use Rattle.rules.specs.meaning.States.{State, lent, StateSound}
 use Rattle.rules.proofs.laws.run.Acts.{judged_sound, low_kept}
 use Rattle.rules.proofs.laws.run.Bursts.{named_sound}
 use Rattle.sites.proofs.Outcomes.{judged_all, scanned_low}
-use Rattle.bursts.specs.declared.Ask.{Ask}
-use Rattle.bursts.specs.Asks.{named_at, ask_of, noted, number_of}
-use Rattle.bursts.proofs.Turns.{asks_from, left_by, said_by, next_left, next_said, last_left, last_said, asked_answer, number_none, handled}
+use Rattle.bursts.specs.Asks.{named_at, noted, number_of}
+use Rattle.bursts.proofs.Turns.{asks_from, left_by, said_by, next_left, next_said, last_left, last_said, number_none, handled}
 use Rattle.bursts.proofs.burst.Goals as goal
 
 -- where there is a step to take, the call is let through: nothing was judged, and there is enough to read and room to write
@@ -29,20 +28,17 @@ let_through judged asks room r n e f l = go (eqb r 0) refl
         absurd (omega (arith, l, m))
 
 -- one turn: `act` answers the ask and leaves the state as its contract says
-module _ (run : Run) (s : State) (xs : List ℕ) (n i : ℕ) (less : i < n) (ask : Ask) (e : ask ≡ ask_of (named_at xs i)) (r : Answer) (left : State) (did : Acted ask.refusal run s ask.step r left) where
-  answered : (r ≡ named_answer run s (named_at xs i)) × (left ≡ named_after run s (named_at xs i))
-  answered = asked_answer run s (named_at xs i) r left (subst (λ (a : Ask). Acted a.refusal run s a.step r left) e did)
-
+module _ (run : Run) (s : State) (xs : List ℕ) (n i : ℕ) (less : i < n) (r : Answer) (left : State) (said : r ≡ named_answer run s (named_at xs i)) (after : left ≡ named_after run s (named_at xs i)) where
   stays_sound : StateSound run s → StateSound run left
-  stays_sound h = subst (StateSound run) (sym answered.1) (named_sound run s h (named_at xs i))
+  stays_sound h = subst (StateSound run) (sym after) (named_sound run s h (named_at xs i))
 
   left_on : left_by run left (asks_from xs (i + 1) (n - (i + 1))) ≡ left_by run s (asks_from xs i (n - i))
-  left_on = ap (λ (t : State). left_by run t (asks_from xs (i + 1) (n - (i + 1)))) answered.1 ∙ sym (next_left run xs n i less s)
+  left_on = ap (λ (t : State). left_by run t (asks_from xs (i + 1) (n - (i + 1)))) after ∙ sym (next_left run xs n i less s)
 
   said_on : (out zs : List ℕ) → zs ≡ noted i r out → said_by run left (asks_from xs (i + 1) (n - (i + 1))) (i + 1) zs ≡ said_by run s (asks_from xs i (n - i)) i out
   said_on out zs f =
-      ap (said_by run left (asks_from xs (i + 1) (n - (i + 1))) (i + 1)) (f ∙ ap (λ (a : Answer). noted i a out) answered.0)
-      ∙ ap (λ (t : State). said_by run t (asks_from xs (i + 1) (n - (i + 1))) (i + 1) (noted i (named_answer run s (named_at xs i)) out)) answered.1
+      ap (said_by run left (asks_from xs (i + 1) (n - (i + 1))) (i + 1)) (f ∙ ap (λ (a : Answer). noted i a out) said)
+      ∙ ap (λ (t : State). said_by run t (asks_from xs (i + 1) (n - (i + 1))) (i + 1) (noted i (named_answer run s (named_at xs i)) out)) after
       ∙ sym (next_said run xs n i less s out)
 
 -- two stores leave as many words
@@ -57,7 +53,6 @@ loop-i-init c =
     let all_left : n - 0 ≡ n = omega arith in
     let judged = judged_all a.run a.words.now a.slots.now a.ledger.now c.scan_slots-scan.result c.see-books.result c.judge_seen-judged.result c.scan_slots-scan.ensures c.see-books.ensures c.judge_seen-judged.ensures in
     record {
-      within = omega arith;
       under = scanned_low a.run.sites a.slots.now c.scan_slots-scan.result c.scan_slots-scan.ensures;
       sound = λ l. judged_sound a.run s (sym judged ∙ (let_through c.judge_seen-judged.result (length a.asks.now) (length a.answers.now) c.number_of-refusal.result n c.number_of-refusal.ensures c.to_take-n.ensures l).0);
       left = ap (λ (k : ℕ). left_by a.run s (asks_from a.asks.now 0 k)) all_left;
@@ -77,18 +72,18 @@ loop-i-preserved c =
     let a = c.args in
     let k = c.loop-i in
     let s = lent k.words k.slots k.ledger in
-    let left = lent c.act-answer.new.words c.act-answer.new.slots c.act-answer.new.ledger in
     let n = c.to_take-n.result in
     let less = c.loop-i-test.true in
-    let ask = c.ask_at-ask in
-    let act = c.act-answer in
+    let took = c.take-answer in
+    let left = lent took.new.words took.new.slots took.new.ledger in
+    let said = took.ensures.answer ∙ ap (named_answer a.run s) c.ask_at.ensures in
+    let after = took.ensures.state ∙ ap (named_after a.run s) c.ask_at.ensures in
     record {
-      within = omega (arith, less);
-      under = subst (λ (m : ℕ). m ≤ lowest_free act.new.slots) (sym c.low_after-low.ensures) (low_kept a.run s k.low k.invariant.under ask.result.refusal ask.result.step act.result left act.ensures);
-      sound = λ _. stays_sound a.run s a.asks.now n k.i less ask.result ask.ensures act.result left act.ensures (k.invariant.sound less);
-      left = left_on a.run s a.asks.now n k.i less ask.result ask.ensures act.result left act.ensures ∙ k.invariant.left;
-      said = said_on a.run s a.asks.now n k.i less ask.result ask.ensures act.result left act.ensures k.answers c.put_answer.new.answers c.put_answer.ensures ∙ k.invariant.said;
-      long = ap length c.put_answer.ensures ∙ noted_long k.i act.result k.answers ∙ k.invariant.long;
+      under = took.ensures.under;
+      sound = λ _. stays_sound a.run s a.asks.now n k.i less took.result left said after (k.invariant.sound less);
+      left = left_on a.run s a.asks.now n k.i less took.result left said after ∙ k.invariant.left;
+      said = said_on a.run s a.asks.now n k.i less took.result left said after k.answers c.put_answer.new.answers c.put_answer.ensures ∙ k.invariant.said;
+      long = ap length c.put_answer.ensures ∙ noted_long k.i took.result k.answers ∙ k.invariant.long;
     }
 
 pub returns : goal.returns

@@ -8,13 +8,9 @@ use Rattle.bursts.proofs.burst.Given as goal
 
 abbrev pub invariant-loop-i : goal.invariant-loop-i
 invariant-loop-i l = record {
-  within : l.i ≤ l.n;
   under : l.low ≤ lowest_free l.slots;
   sound : l.i < l.n → StateSound l.run (lent l.words l.slots l.ledger);
   left : left_by l.run (lent l.words l.slots l.ledger) (asks_from l.asks l.i (l.n - l.i)) ≡ left_by l.run (lent l.initial.words l.initial.slots l.initial.ledger) (asks_from l.asks 0 l.n);
   said : said_by l.run (lent l.words l.slots l.ledger) (asks_from l.asks l.i (l.n - l.i)) l.i l.answers ≡ said_by l.run (lent l.initial.words l.initial.slots l.initial.ledger) (asks_from l.asks 0 l.n) 0 l.initial.answers;
   long : length l.answers ≡ length l.initial.answers;
 }
-
-abbrev pub decreases-loop-i : goal.decreases-loop-i
-decreases-loop-i l = l.n - l.i

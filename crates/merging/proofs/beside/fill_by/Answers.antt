@@ -12,10 +12,10 @@ loop-left-preserved g c =
     let v = c.loop-left.invariant in
     let now = c.if-this-ne0 in
     let slid : Joining c.args.table.now c.args.entries.now (λ q. get_or now.table q 0) now.left.own now.left.others now.left.place × (now.left.others ≡ c.loop-left.left.others) × (length now.table ≡ length c.loop-left.table) = elim now.branch [
-      then-this-ne0 w ↦
+      | then-this-ne0 w ↦
           let e = w.slide-left.ensures in
           rw (w.table-is, w.left-is) (e.by_index _ _ v.0 (source_id v.0 (omega arith)), e.others_value.0, e.others_value.2)
-    | else-this-ne0 w ↦ rw (w.table-is, w.left-is) (v.0, refl, refl)
+      | else-this-ne0 w ↦ rw (w.table-is, w.left-is) (v.0, refl, refl)
     ] in
     let t = c.turn-left.ensures in
     (t.by_index _ _ slid.0 (rw slid.1 (source_id v.0 (omega arith))) (rw slid.1 (source_length v.0 (omega arith))), t.place_lt_place.1 ∙ slid.2 ∙ v.1)
