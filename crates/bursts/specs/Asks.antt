@@ -2,12 +2,7 @@
 -- Assumes nothing.
 use Rattle.std.specs.Prelude.{ℕ, zero, suc, ◌+◌, ◌*◌, ◌/◌, ◌%◌, not, List, [], ◌∷◌, get_or, set, ltb, eqb, Option}
 use Rattle.rules.specs.declared.Step.{Step}
-<<<<<<< HEAD
 use Rattle.rules.specs.meaning.Operations.{Answer}
-use Rattle.rules.specs.declared.Step.TheVariants.{Query}
-=======
-use Rattle.rules.specs.meaning.Operations.{Answer}
->>>>>>> 4ad3a333c3ac1805b3f21b29d370d814abc8fff3
 use Rattle.rules.specs.meaning.Refusals.{◌when◌, first_given}
 use Rattle.rules.specs.meaning.StepLines.{step_for}
 

@@ -16,8 +16,7 @@ use Rattle.rules.specs.meaning.Operations.{answer, raise_refusal, raise_answer, 
 use Rattle.rules.specs.meaning.Refusals.{first_given}
 use Rattle.rules.specs.meaning.States.{table_at, with_table}
 use Rattle.rules.specs.meaning.Steps.{length_added, effect}
-use Rattle.steps.specs.declared.verdict.Verdict.{Verdict}
-use Rattle.steps.specs.Verdicts.{refused_verdict, table_verdict, step_refusal, step_verdict, step_words}
+use Rattle.steps.specs.Verdicts.{Verdict, refused_verdict, table_verdict, step_refusal, step_verdict, step_words}
 use Rattle.steps.proofs.Tables.{refused_law, table_verdict_law, table_words}
 
 -- a site outside the run

@@ -1,6 +1,6 @@
 -- A step's outcome by value: what the functions of this crate compute from the words and from what the step sees besides them.
 -- Assumes nothing.
-use Rattle.std.specs.Prelude.{ℕ, zero, suc, ◌≡◌, true, List, [], ◌∷◌, length, eqb, ◌||◌}
+use Rattle.std.specs.Prelude.{ℕ, zero, suc, ◌≡◌, true, List, [], ◌∷◌, length, eqb, ◌||◌, Result, Ok, Err}
 use Rattle.rules.specs.meaning.Operations.{Answer}
 use Rattle.rules.specs.declared.Run.{Run}
 use Rattle.rules.specs.declared.Parcel.{Parcel}
@@ -13,15 +13,35 @@ use Rattle.rules.specs.meaning.Operations.{unless_refused}
 use Rattle.rules.specs.meaning.Parcels.{no_parcel}
 use Rattle.rules.specs.meaning.Links.{no_link, no_pair}
 use Rattle.rules.specs.meaning.Ledgers.{no_counter, absorbed_counter}
-use Rattle.rules.specs.meaning.Refusals.{Test, first_given, ◌when◌}
+use Rattle.rules.specs.meaning.Refusals.{Test, first_given, ◌when◌, number_of}
 use Rattle.rules.specs.meaning.States.{width, tables_sound}
 use Rattle.rules.specs.meaning.Steps.{Post, puts, frees, no_free_slot, outside, effect}
 use Rattle.judge.specs.Judged.{seen_as, Sized}
-use Rattle.steps.specs.declared.verdict.Verdict.{Verdict}
+use Rattle.rules.specs.declared.Refusal.{Refusal}
+use Rattle.steps.specs.declared.verdict.Taken.{Taken}
+
+-- what a step comes to: its refusal, 0 for none, what it answers, the counter that it earns, and the slot and the link that it sets
+pub record Verdict : Type 0 where
+  pub refusal : ℕ
+  pub value : ℕ
+  pub counter : ℕ
+  pub at : ℕ
+  pub parcel : Parcel
+  pub link : ℕ
+  pub pair : Pair
 
 -- nothing to change
 abbrev pub refused_verdict : ℕ → ℕ → Verdict
 refused_verdict number count = record { refusal = number; value = 0; counter = no_counter; at = count; parcel = no_parcel; link = no_link; pair = no_pair }
+
+-- an accepted step that answers a value: no slot, no counter and no link changes
+abbrev pub plain : ℕ → ℕ → Taken
+plain value count = record { value = value; counter = no_counter; at = count; parcel = no_parcel; link = no_link; pair = no_pair }
+
+-- the verdict of a call that gives what an accepted step comes to, or its refusal
+abbrev pub as_verdict : ℕ → Result Taken Refusal → Verdict
+as_verdict count (Ok t) = record { refusal = 0; value = t.value; counter = t.counter; at = t.at; parcel = t.parcel; link = t.link; pair = t.pair }
+as_verdict count (Err r) = refused_verdict (number_of r) count
 
 abbrev pub table_verdict : Answer → ℕ → Verdict
 table_verdict a count = record { refusal = a.refusal; value = a.value; counter = no_counter; at = count; parcel = no_parcel; link = no_link; pair = no_pair }

@@ -1,19 +1,19 @@
 // What a step comes to once the state is judged: the step's own tests are made and the words changed. Everything here is by value but the words.
 ghost use Rattle.std.specs.Prelude.{◌≡◌};
-ghost use Rattle.steps.specs.Verdicts.{Ready, looked_at, step_verdict, step_words, verdict_under, words_under};
+ghost use Rattle.steps.specs.Verdicts.{Ready, as_verdict, looked_at, step_verdict, step_words};
 
 use crate::deliver::on_deliver;
 use crate::merges::on_merge;
 use crate::one::{on_query, on_table};
 use crate::posts::{on_again, on_lose, on_send};
-use crate::verdict::{Verdict, refuse_by};
-use rules::{Parcel, Run, Scan, Seen, Sight, Step};
+use crate::verdict::Taken;
+use rules::{Parcel, Refusal, Run, Scan, Seen, Sight, Step};
 
-// What the step comes to that nothing has refused before.
+// What the step comes to, by its row.
 #[tactic(auto, using(crate::proofs::Choosing::still_words), unfolding(rules::specs::meaning::Steps::effect))]
-fn take(words: &mut [u64], run: Run, seen: Sight, step: Step) -> Verdict
+fn take(words: &mut [u64], run: Run, seen: Sight, step: Step) -> Result<Taken, Refusal>
     requires { Ready run words.old }
-    ensures value { result ≡ step_verdict run words.old seen step }
+    ensures value { as_verdict seen.count result ≡ step_verdict run words.old seen step }
     ensures words_after { words.new ≡ step_words run words.old seen step }
 {
     match step {
@@ -30,9 +30,8 @@ fn take(words: &mut [u64], run: Run, seen: Sight, step: Step) -> Verdict
     }
 }
 
-// Every test of a step, and every change of the words, unless something has refused the step before.
-#[tactic(auto, using(crate::proofs::Choosing::under_out, crate::proofs::Choosing::under_in))]
-pub fn decide(
+// Every test of a step, and every change of the words.
+pub fn resolve(
     words: &mut [u64],
     run: Run,
     free: usize,
@@ -40,10 +39,10 @@ pub fn decide(
     slots: usize,
     books: Seen,
     step: Step,
-    refused: u32,
-) -> Verdict
-    requires { refused ≡ 0 → Ready run words.old }
-    ensures { (result ≡ verdict_under refused run words.old (looked_at free held slots books) step) × (words.new ≡ words_under refused run words.old (looked_at free held slots books) step) }
+) -> Result<Taken, Refusal>
+    requires { Ready run words.old }
+    ensures value { as_verdict slots result ≡ step_verdict run words.old (looked_at free held slots books) step }
+    ensures words_after { words.new ≡ step_words run words.old (looked_at free held slots books) step }
 {
     let seen = Sight {
         scan: Scan {
@@ -55,8 +54,5 @@ pub fn decide(
         count: slots,
         books,
     };
-    if refused != 0 {
-        return refuse_by(refused, seen);
-    }
     take(words, run, seen, step)
 }

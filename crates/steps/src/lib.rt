@@ -12,8 +12,8 @@ mod places;
 mod posts;
 mod verdict;
 
-pub use deciding::decide;
+pub use deciding::resolve;
 pub use looks::{link_of, needs_slot, slot_of};
 pub use low::low_after;
 pub use places::part_of;
-pub use verdict::Verdict;
+pub use verdict::Taken;

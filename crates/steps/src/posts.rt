@@ -2,10 +2,10 @@
 ghost use Rattle.std.specs.Prelude.{◌≡◌, ◌<◌, not, true, List, ℕ};
 ghost use Rattle.rules.specs.declared.Step.TheVariants.{Send, Again, Lose};
 ghost use Rattle.rules.specs.meaning.Steps.{nothing_there};
-ghost use Rattle.steps.specs.Verdicts.{Ready, posted, step_verdict};
+ghost use Rattle.steps.specs.Verdicts.{Ready, as_verdict, posted, step_verdict};
 
 use crate::places::{part_of, two_sites};
-use crate::verdict::{Verdict, refuse, tell};
+use crate::verdict::{Taken, tell};
 use links::sent_pair;
 use parcels::is_occupied;
 use rules::{M, NO_LINK, Pair, Parcel, Refusal, Run, Sight};
@@ -13,38 +13,49 @@ use rules::{M, NO_LINK, Pair, Parcel, Refusal, Run, Sight};
 // A new parcel takes the free slot with the lowest number, unless there is none or its counter is at the largest. The entry of its link is set with it, so
 // that a refused send uses no serial.
 #[tactic(auto, unfolding(crate::specs::Verdicts::posted, rules::specs::meaning::Refusals::first_given))]
-fn post(seen: Sight, parcel: Parcel, counter: u64, counted: u64, link: usize, pair: Pair) -> Verdict
-    ensures { result ≡ posted seen parcel counter counted link pair }
+fn post(
+    seen: Sight,
+    parcel: Parcel,
+    counter: u64,
+    counted: u64,
+    link: usize,
+    pair: Pair,
+) -> Result<Taken, Refusal>
+    ensures { as_verdict seen.count result ≡ posted seen parcel counter counted link pair }
 {
     let free = seen.scan.free;
     if seen.count <= free {
-        refuse(Refusal::NoSlot, seen)
+        Err(Refusal::NoSlot)
     } else if counted == M {
-        refuse(Refusal::CountFull, seen)
+        Err(Refusal::CountFull)
     } else {
-        Verdict {
-            refusal: 0,
+        Ok(Taken {
             value: free as u64,
             counter,
             at: free,
             parcel,
             link,
             pair,
-        }
+        })
     }
 }
 
 // The sender's length for the id goes to another site, with the next serial of the link.
-pub(crate) fn on_send(words: &[u64], run: Run, seen: Sight, from: u64, to: u64, id: u64) -> Verdict
+pub(crate) fn on_send(
+    words: &[u64],
+    run: Run,
+    seen: Sight,
+    from: u64,
+    to: u64,
+    id: u64,
+) -> Result<Taken, Refusal>
     requires { Ready run words.now }
-    ensures { result ≡ step_verdict run words.now seen (Send from to id) }
+    ensures { as_verdict seen.count result ≡ step_verdict run words.now seen (Send from to id) }
 {
-    if let Err(refusal) = two_sites(run, from, to) {
-        return refuse(refusal, seen);
-    }
+    two_sites(run, from, to)?;
     let length = table::query(&words[part_of(run, from)], id);
     if length == 0 {
-        return refuse(Refusal::NothingToSend, seen);
+        return Err(Refusal::NothingToSend);
     }
     let pair = seen.books.pair;
     let parcel = Parcel {
@@ -74,8 +85,8 @@ pub(crate) fn is_there(run: Run, seen: Sight, slot: u64) -> bool
 
 // A second parcel like the one in the slot, with its sender and its serial.
 #[tactic(auto, unfolding(crate::specs::Verdicts::posted, crate::specs::Verdicts::step_refusal, rules::specs::meaning::Refusals::first_given, rules::specs::meaning::Steps::effect))]
-pub(crate) fn on_again(run: Run, seen: Sight, slot: u64) -> Verdict
-    ensures { (ws : List ℕ) → result ≡ step_verdict run ws seen (Again slot) }
+pub(crate) fn on_again(run: Run, seen: Sight, slot: u64) -> Result<Taken, Refusal>
+    ensures { (ws : List ℕ) → as_verdict seen.count result ≡ step_verdict run ws seen (Again slot) }
 {
     if is_there(run, seen, slot) {
         post(
@@ -87,24 +98,24 @@ pub(crate) fn on_again(run: Run, seen: Sight, slot: u64) -> Verdict
             Pair::default(),
         )
     } else {
-        refuse(Refusal::NoParcel, seen)
+        Err(Refusal::NoParcel)
     }
 }
 
 // The slot is freed, and its update is lost.
 #[tactic(auto, unfolding(crate::specs::Verdicts::step_refusal, rules::specs::meaning::Refusals::first_given, rules::specs::meaning::Steps::effect))]
-pub(crate) fn on_lose(run: Run, seen: Sight, slot: u64) -> Verdict
-    ensures { (ws : List ℕ) → result ≡ step_verdict run ws seen (Lose slot) }
+pub(crate) fn on_lose(run: Run, seen: Sight, slot: u64) -> Result<Taken, Refusal>
+    ensures { (ws : List ℕ) → as_verdict seen.count result ≡ step_verdict run ws seen (Lose slot) }
 {
     if !is_there(run, seen, slot) {
-        refuse(Refusal::NoParcel, seen)
+        Err(Refusal::NoParcel)
     } else if seen.books.counts.lost == M {
-        refuse(Refusal::CountFull, seen)
+        Err(Refusal::CountFull)
     } else {
-        Verdict {
+        Ok(Taken {
             counter: 4,
             at: slot as usize,
             ..tell(0, seen)
-        }
+        })
     }
 }

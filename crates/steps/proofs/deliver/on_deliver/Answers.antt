@@ -1,26 +1,30 @@
 -- `steps::deliver::on_deliver`: by its tests in order.
-use Rattle.std.proofs.Common.{refl, ℕ, List, sym, ap, arith, ◌∙◌}
+use Rattle.std.proofs.Common.{Ok, Err, ◌≡◌, refl, ℕ, List, sym, ap, arith, ◌∙◌}
 use borrow.Author.Tests.{not-true, not-false}
 use Rattle.rules.specs.meaning.Operations.{Answer}
 use Rattle.rules.specs.meaning.Lengths.{join}
 use Rattle.rules.specs.meaning.Table.{length_of, held_with}
-use Rattle.rules.specs.meaning.Operations.{crowded, absorb_answer, absorb_table}
+use Rattle.rules.specs.meaning.Operations.{as_answer, crowded, absorb_answer, absorb_table}
 use Rattle.steps.specs.Verdicts.{delivered}
-use Rattle.steps.proofs.Delivering.{deliver_none, deliver_unordered, deliver_crowded, deliver_full, deliver_step}
-use Rattle.steps.proofs.Tables.{part_end, part_sound, told_of, put_of, refused_law}
+use Rattle.std.proofs.lemmas.Result.{err_from_is_err_and}
+use Rattle.rules.proofs.laws.Determined.{numbered}
+use Rattle.rules.specs.meaning.Links.{heard_pair}
+use Rattle.rules.specs.meaning.States.{table_at}
+use Rattle.steps.proofs.Delivering.{settle_refused, deliver_none, deliver_unordered, deliver_crowded, deliver_full, deliver_step}
+use Rattle.steps.proofs.Tables.{part_sound, told_of, put_of, refused_law}
 use Rattle.steps.proofs.deliver.on_deliver.Goals as goal
 
 pub returns-then-not-is_there : goal.returns-then-not-is_there
 returns-then-not-is_there c =
     let a = c.args in
     let out = refused_law a.run a.words.now a.seen _ 4 (deliver_none a.run a.words.now a.seen a.slot (not-false _ (sym c.if-not-is_there.ensures.value))) in
-    record { value = c.refuse.ensures ∙ out.0; words_after = out.1 }
+    record { value = out.0; words_after = out.1 }
 
 pub returns-then-incomparable : goal.returns-then-incomparable
 returns-then-incomparable c =
     let a = c.args in
     let out = refused_law a.run a.words.now a.seen _ 14 (deliver_unordered a.run a.words.now a.seen a.slot (not-true _ (sym c.if-not-is_there.ensures.value)) (sym c.if-incomparable.ensures)) in
-    record { value = c.refuse-then-incomparable.ensures ∙ out.0; words_after = out.1 }
+    record { value = out.0; words_after = out.1 }
 
 pub lacks_room-requires : goal.lacks_room-requires
 lacks_room-requires c =
@@ -33,7 +37,7 @@ returns-then-lacks_room c =
     let p = c.part_of-part in
     let full = told_of a.run a.words.now n.site _ _ p.ensures.0 p.ensures.1 (λ (t : List ℕ). crowded t (held_with t n.id (join (length_of t n.id) n.length))) c.if-lacks_room.ensures in
     let out = refused_law a.run a.words.now a.seen _ 7 (deliver_crowded a.run a.words.now a.seen a.slot (not-true _ (sym c.if-not-is_there.ensures.value)) (sym c.if-incomparable.ensures) (sym full)) in
-    record { value = c.refuse-then-lacks_room.ensures ∙ out.0; words_after = out.1 }
+    record { value = out.0; words_after = out.1 }
 
 pub returns-then-books-eq-M : goal.returns-then-books-eq-M
 returns-then-books-eq-M c =
@@ -42,11 +46,27 @@ returns-then-books-eq-M c =
     let p = c.part_of-part in
     let full = told_of a.run a.words.now n.site _ _ p.ensures.0 p.ensures.1 (λ (t : List ℕ). crowded t (held_with t n.id (join (length_of t n.id) n.length))) c.if-lacks_room.ensures in
     let out = refused_law a.run a.words.now a.seen _ 9 (deliver_full a.run a.words.now a.seen a.slot (not-true _ (sym c.if-not-is_there.ensures.value)) (sym c.if-incomparable.ensures) (sym full) c.if-books-eq-M.true) in
-    record { value = c.refuse-then-books-eq-M.ensures ∙ out.0; words_after = out.1 }
+    record { value = out.0; words_after = out.1 }
 
-pub absorb-answer-requires : goal.absorb-answer-requires
-absorb-answer-requires c =
+pub absorb-requires : goal.absorb-requires
+absorb-requires c =
     part_sound c.args.run c.args.words.now c.requires c.args.seen.named.site (c.if-not-is_there.ensures.site refl) _ _ c.part_of-part.ensures.0 c.part_of-part.ensures.1
+
+pub returns-in_err-value : goal.returns-in_err-value
+returns-in_err-value c =
+    let a = c.args in
+    let n = a.seen.named in
+    let p = c.part_of-part in
+    let done = deliver_step a.run a.words.now a.seen a.slot (not-true _ (sym c.if-not-is_there.ensures.value)) (sym c.if-incomparable.ensures) c.if-books-eq-M.false _ refl in
+    let said = told_of a.run a.words.now n.site _ _ p.ensures.0 p.ensures.1 (λ (t : List ℕ). absorb_answer t n.id n.length) c.absorb.ensures.value in
+    let left = put_of a.run a.words.now n.site _ _ p.ensures.0 p.ensures.1 (λ (t : List ℕ). absorb_table t n.id n.length) c.absorb.ensures.table_after in
+    let q = err_from_is_err_and c.from_residual.result c.from_residual.ensures.1 in
+    let refused : as_answer (Err c.in_err-value.field-0.0) ≡ absorb_answer (table_at a.run a.words.now n.site) n.id n.length = rw c.in_err-value.was at said in
+    let above = numbered c.in_err-value.field-0.0 in
+    record {
+      value = rw (q.1, q.2) (settle_refused (as_answer (Err c.in_err-value.field-0.0)) a.slot a.seen.count a.seen.books.link _ (λ z. omega (arith, z)) ∙ ap (λ (x : Answer). delivered x a.slot a.seen.count a.seen.books.link (heard_pair n.serial a.seen.books.pair)) refused ∙ done.0);
+      words_after = left ∙ done.1;
+    }
 
 pub returns : goal.returns
 returns c =
@@ -54,9 +74,10 @@ returns c =
     let n = a.seen.named in
     let p = c.part_of-part in
     let done = deliver_step a.run a.words.now a.seen a.slot (not-true _ (sym c.if-not-is_there.ensures.value)) (sym c.if-incomparable.ensures) c.if-books-eq-M.false _ c.heard_pair.ensures in
-    let said = told_of a.run a.words.now n.site _ _ p.ensures.0 p.ensures.1 (λ (t : List ℕ). absorb_answer t n.id n.length) c.absorb-answer.ensures.value in
-    let left = put_of a.run a.words.now n.site _ _ p.ensures.0 p.ensures.1 (λ (t : List ℕ). absorb_table t n.id n.length) c.absorb-answer.ensures.table_after in
+    let said = told_of a.run a.words.now n.site _ _ p.ensures.0 p.ensures.1 (λ (t : List ℕ). absorb_answer t n.id n.length) c.absorb.ensures.value in
+    let left = put_of a.run a.words.now n.site _ _ p.ensures.0 p.ensures.1 (λ (t : List ℕ). absorb_table t n.id n.length) c.absorb.ensures.table_after in
+    let taken : as_answer (Ok c.in_ok-value.value) ≡ absorb_answer (table_at a.run a.words.now n.site) n.id n.length = rw c.in_ok-value.was at said in
     record {
-      value = c.settle.ensures ∙ ap (λ (x : Answer). delivered x a.slot a.seen.count a.seen.books.link c.heard_pair.result) said ∙ done.0;
+      value = rw c.tell.ensures (ap (λ (x : Answer). delivered x a.slot a.seen.count a.seen.books.link c.heard_pair.result) taken ∙ done.0);
       words_after = left ∙ done.1;
     }
