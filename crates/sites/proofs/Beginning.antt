@@ -1,37 +1,22 @@
--- Words made 0, one after the other; and the words of a fresh run.
+-- A fresh run, by its sizes: all three things as they begin, or as they were.
 -- Assumes nothing.
-use Prim.Native.Nat.{ℕ, zero, suc, ◌+◌, ◌≤◌, ◌<◌}
-use native.Mathlib.Numerals.{add-one}
-use native.Mathlib.Omega.{arith}
-use mathlib.Core.Bool.{true, false}
-use mathlib.Core.Path.{◌≡◌, refl, sym, ap, ◌∙◌}
-use mathlib.Core.List.{List, [], ◌∷◌, ◌++◌}
-use lib.ListN.{length, take, set, replicate}
-use lib.Seq.{take-suc-set, take_all}
+use Rattle.std.specs.Prelude.{◌≡◌, true, false, List, ℕ, length, replicate}
+use Rattle.std.proofs.Common.{refl}
+use Rattle.rules.specs.declared.Ledger.{Ledger}
+use Rattle.rules.specs.declared.Parcel.{Parcel}
 use Rattle.rules.specs.declared.Run.{Run}
+use Rattle.rules.specs.meaning.Ledgers.{started_if}
+use Rattle.rules.specs.meaning.Parcels.{cleared}
 use Rattle.rules.specs.meaning.Refusals.{first_given}
-use Rattle.rules.specs.meaning.States.{sizes_right}
-use Rattle.rules.specs.meaning.Runs.{fresh_refusal}
-use Rattle.sites.specs.Values.{fresh_words}
+use Rattle.rules.specs.meaning.States.{lent, sizes_right}
+use Rattle.rules.specs.meaning.Runs.{fresh_refusal, after_fresh, Freshened}
 
-one_more_law : (i : ℕ) → ◌++◌ {A = ℕ} (replicate i 0) (0 ∷ []) ≡ replicate (suc i) 0
-one_more_law zero = refl
-one_more_law (suc i) = ap (λ (l : List ℕ). 0 ∷ l) (one_more_law i)
+module _ (sizes : Run) (first : ℕ) (ws : List ℕ) (ss : List Parcel) (l : Ledger) where
+  pub begun : sizes_right sizes (length ws) (length ss) ≡ true → (ws' : List ℕ) (ss' : List Parcel) (l' : Ledger) → ws' ≡ replicate (length ws) 0 → ss' ≡ cleared (length ss) ss → l' ≡ started_if true sizes.sites first l
+      → Freshened sizes first (lent ws ss l) 0 (lent ws' ss' l')
+  unfolding fresh_refusal first_given after_fresh started_if
+  begun right ws' ss' l' e f g = record { refusal = rw right refl; state = rw (e, f, g, right) refl }
 
-pub zeroed_more : (u : List ℕ) (i : ℕ) → i < length u → take i u ≡ replicate i 0 → take (i + 1) (set u i 0) ≡ replicate (i + 1) 0
-zeroed_more u i l h = rw (add-one i, take-suc-set u i 0 l, h) (one_more_law i)
-
-pub zeroed_end : (ws u : List ℕ) (i : ℕ) → length u ≡ length ws → length u ≤ i → take i u ≡ replicate i 0 → i ≤ length u → u ≡ replicate (length ws) 0
-zeroed_end ws u i e h q l =
-    let all : i ≡ length ws = omega arith in
-    sym (take_all i u h) ∙ q ∙ ap (λ (n : ℕ). replicate n 0) all
-
--- ---- the words of a fresh run
-module _ (run : Run) (ws : List ℕ) (slots : ℕ) where
-  pub right : sizes_right run (length ws) slots ≡ true → (0 ≡ fresh_refusal run (length ws) slots) × (replicate (length ws) 0 ≡ fresh_words run ws slots)
-  unfolding fresh_words fresh_refusal first_given
-  right h = rw h (refl, refl)
-
-  pub wrong : sizes_right run (length ws) slots ≡ false → (1 ≡ fresh_refusal run (length ws) slots) × (ws ≡ fresh_words run ws slots)
-  unfolding fresh_words fresh_refusal first_given
-  wrong h = rw h (refl, refl)
+  pub not_begun : sizes_right sizes (length ws) (length ss) ≡ false → Freshened sizes first (lent ws ss l) 1 (lent ws ss l)
+  unfolding fresh_refusal first_given after_fresh
+  not_begun wrong = record { refusal = rw wrong refl; state = rw wrong refl }

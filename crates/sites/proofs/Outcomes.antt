@@ -5,13 +5,10 @@ use Prim.Native.Nat.{ℕ, zero, suc, ◌≤◌}
 use native.Mathlib.Nat.{le_refl}
 use native.Mathlib.Omega.{arith}
 use mathlib.Core.Bool.{Bool, cond}
-use mathlib.Core.Path.{◌≡◌, refl, sym, ◌∙◌}
+use mathlib.Core.Path.{◌≡◌, refl, sym, ap, ◌∙◌}
 use mathlib.Core.List.{List}
-use lib.Dec.{eqb}
-use lib.ListN.{length, set, get_or, replicate}
-use lib.Seq.{set_out}
-use borrow.Author.Tests.{ne_eqb}
-use Rattle.rules.specs.meaning.Operations.{Answer}
+use lib.ListN.{length, set, get_or}
+use Rattle.rules.specs.meaning.Operations.{as_answer}
 use Rattle.rules.specs.declared.Ledger.{Ledger}
 use Rattle.rules.specs.declared.Parcel.{Parcel}
 use Rattle.rules.specs.declared.Run.{Run}
@@ -23,45 +20,51 @@ use Rattle.rules.specs.declared.Step.{Step}
 use Rattle.rules.specs.declared.Step.TheVariants.{Add, Remove, Query, Send, Merge, Deliver, Again, Lose}
 use Rattle.rules.specs.meaning.Lengths.{M}
 use Rattle.rules.specs.meaning.Operations.{unless_refused}
-use Rattle.rules.specs.meaning.Links.{no_link, no_pair, link_between}
-use Rattle.rules.specs.meaning.Ledgers.{booked_ledger, started_if, seen_of}
-use Rattle.rules.proofs.laws.run.Ledgers.{raised_none}
-use Rattle.rules.specs.meaning.Parcels.{no_parcel, lowest_free, scan_of, cleared}
+use Rattle.rules.specs.meaning.Links.{no_link, link_between}
+use Rattle.rules.specs.meaning.Ledgers.{booked_ledger, seen_of}
+use Rattle.rules.specs.meaning.Parcels.{no_parcel, lowest_free, scan_of}
 use Rattle.rules.specs.meaning.States.{State, lent, sight_of, StateSound}
 use Rattle.rules.specs.meaning.Kinds.{slot_of, link_of, numbers, takes_slot}
-use Rattle.rules.specs.meaning.Runs.{refusal_in, refusal_of, value_of, state_by, after, fresh_refusal, empty, after_fresh, Stepped, Freshened}
-use Rattle.steps.specs.declared.verdict.Verdict.{Verdict}
+use Rattle.rules.specs.meaning.Runs.{refusal_in, refusal_of, value_of, after, Stepped}
+use Rattle.rules.specs.declared.Refusal.{Refusal}
+use Rattle.rules.specs.meaning.Refusals.{number_of}
+use Rattle.rules.proofs.laws.Determined.{numbered}
+use Rattle.std.specs.Prelude.{Ok, Err}
+use Rattle.steps.specs.declared.verdict.Taken.{Taken}
 use Rattle.rules.proofs.laws.run.Steps.{sound_judged}
 use Rattle.judge.specs.Judged.{seen_as, judgement}
-use Rattle.steps.specs.Verdicts.{Ready, step_refusal, step_verdict, step_words, verdict_by, looked_at, verdict_under, words_under, answer_in}
-use Rattle.sites.specs.Values.{fresh_words, slots_to_clear}
+use Rattle.steps.specs.Verdicts.{Verdict, as_verdict, Ready, step_refusal, step_verdict, step_words, verdict_by, looked_at, answer_in}
 use Rattle.rules.proofs.laws.run.Acts.{judged_first}
 use Rattle.rules.specs.meaning.Steps.{effect}
 use Rattle.rules.specs.meaning.Lags.{lag_in, lag_answer}
-use Rattle.rules.specs.meaning.Acts.{judged_of, answer_under, after_under, Acted}
+use Rattle.rules.specs.meaning.Acts.{judged_of}
 use Rattle.judge.proofs.Judging.{sized}
 
--- no counter, no slot and no link: all stays as it is
-unbooked : (l : Ledger) → length l.pairs ≡ 256 → booked_ledger M 0 no_link no_pair l ≡ l
-unbooked l whole = rw (set_out l.pairs no_link no_pair (omega (arith, whole)), raised_none M l.counts)
-
-module _ (run : Run) (ws : List ℕ) (ss : List Parcel) (l : Ledger) (whole : length l.pairs ≡ 256) (step : Step) where
-  -- the verdict on what is lent, by its refusal
-  by_refusal : (r : ℕ) → refusal_of run (lent ws ss l) step ≡ r → (v : Verdict) → v ≡ verdict_by (refusal_in run ws (sight_of run (lent ws ss l) step) step) run ws (sight_of run (lent ws ss l) step) step
+module _ (run : Run) (ws : List ℕ) (ss : List Parcel) (l : Ledger) (step : Step) where
+  -- the verdict on what is lent, where it is accepted
+  by_accepted : (r : ℕ) → refusal_of run (lent ws ss l) step ≡ r → (v : Verdict) → v.refusal ≡ 0 → v ≡ verdict_by (refusal_in run ws (sight_of run (lent ws ss l) step) step) run ws (sight_of run (lent ws ss l) step) step
       → (ws' : List ℕ) → ws' ≡ unless_refused (refusal_in run ws (sight_of run (lent ws ss l) step) step) ws (effect run ws (sight_of run (lent ws ss l) step) step).gain.words
       → Stepped run (lent ws ss l) step (answer_in v) (lent ws' (set ss v.at v.parcel) (booked_ledger M v.counter v.link v.pair l))
   unfolding refusal_of value_of after
-  by_refusal zero z v e ws' f = record {
+  by_accepted zero z v none e ws' f = record {
     answer = rw (e, z) refl;
     state = rw (e, f, z) refl;
   }
-  by_refusal (suc r) z v e ws' f = record {
+  by_accepted (suc r) z v none e ws' f = absurd (let k : v.refusal ≡ suc r = ap (λ (x : Verdict). x.refusal) e ∙ rw z refl in omega arith)
+
+  -- and where it is refused: then nothing of it is stored
+  by_refused : (r : ℕ) → refusal_of run (lent ws ss l) step ≡ r → (v : Verdict) → (v.refusal ≡ 0 → ⊥) → v ≡ verdict_by (refusal_in run ws (sight_of run (lent ws ss l) step) step) run ws (sight_of run (lent ws ss l) step) step
+      → (ws' : List ℕ) → ws' ≡ unless_refused (refusal_in run ws (sight_of run (lent ws ss l) step) step) ws (effect run ws (sight_of run (lent ws ss l) step) step).gain.words
+      → Stepped run (lent ws ss l) step (answer_in v) (lent ws' ss l)
+  unfolding refusal_of value_of after
+  by_refused zero z v some e ws' f = absurd (some (ap (λ (x : Verdict). x.refusal) e ∙ rw z refl))
+  by_refused (suc r) z v some e ws' f = record {
     answer = rw (e, z) refl;
-    state = rw (e, f, z, set_out ss (length ss) no_parcel (le_refl (length ss)), unbooked l whole) refl;
+    state = rw (f, z) refl;
   }
 
--- a step sees as much through what `act` looks at as through a pass over all the slots and all the links
-module _ (run : Run) (ws : List ℕ) (ss : List Parcel) (l : Ledger) (whole : length l.pairs ≡ 256) where
+-- a step sees as much through what `take` looks at as through a pass over all the slots and all the links
+module _ (run : Run) (ws : List ℕ) (ss : List Parcel) (l : Ledger) where
   abbrev seen : Step → ℕ → Sight
   seen step free = looked_at free (get_or ss (slot_of step) no_parcel) (length ss) (seen_of 0 (link_of run.sites (get_or ss (slot_of step) no_parcel) step) l)
 
@@ -81,33 +84,30 @@ module _ (run : Run) (ws : List ℕ) (ss : List Parcel) (l : Ledger) (whole : le
   same_sight (Again i) free h = rw h (refl, refl)
   same_sight (Lose i) free h = (refl, refl)
 
-  -- by what has refused the step before
-  by_refused : (step : Step) (free : ℕ) → free ≡ cond (takes_slot step) (lowest_free ss) 0 → (refused : ℕ) → (refused ≡ 0 → StateSound run (lent ws ss l)) → (v : Verdict) → v ≡ verdict_under refused run ws (seen step free) step
-      → (ws' : List ℕ) → ws' ≡ words_under refused run ws (seen step free) step
-      → Acted refused run (lent ws ss l) step (answer_in v) (lent ws' (set ss v.at v.parcel) (booked_ledger M v.counter v.link v.pair l))
-  unfolding verdict_under words_under answer_under after_under refusal_of step_refusal
-  by_refused step free h zero clear v e ws' f =
-      let same = same_sight step free h in
-      let own : refusal_in run ws (sight_of run (lent ws ss l) step) step ≡ step_refusal run ws (sight_of run (lent ws ss l) step) step = sound_judged run (lent ws ss l) step (clear refl) in
-      let did = by_refusal run ws ss l whole step (refusal_of run (lent ws ss l) step) refl v (rw own (e ∙ same.0)) ws' (rw own (f ∙ same.1)) in
-      record { answer = did.answer; state = did.state }
-  by_refused step free h (suc r) clear v e ws' f = record {
-    answer = rw e refl;
-    state = rw (e, f, set_out ss (length ss) no_parcel (le_refl (length ss)), unbooked l whole) refl;
-  }
+-- what is sound is ready for `resolve`
+pub sound_ready : (run : Run) (ws : List ℕ) (ss : List Parcel) (l : Ledger) → StateSound run (lent ws ss l) → Ready run ws
+sound_ready run ws ss l sound = record { sized = sized run (length ws) (length ss) sound.0; tables = sound.1 }
 
--- what is sound is ready for `decide`
-pub clear_ready : (refused : ℕ) (run : Run) (ws : List ℕ) (ss : List Parcel) (l : Ledger) → (refused ≡ 0 → StateSound run (lent ws ss l)) → refused ≡ 0 → Ready run ws
-clear_ready refused run ws ss l clear z = record { sized = sized run (length ws) (length ss) (clear z).0; tables = (clear z).1 }
+-- ---- one step in a sound state, from what its callees ensure
+module _ (sizes : Run) (ws : List ℕ) (ss : List Parcel) (l : Ledger) (asked : Step) (at : ℕ) (held : Parcel) (wanted : Bool) (free link : ℕ) (books : Seen) (sound : StateSound sizes (lent ws ss l))
+    (e₁ : at ≡ slot_of asked) (e₂ : held ≡ get_or ss at no_parcel) (e₃ : wanted ≡ takes_slot asked) (e₄ : free ≡ cond wanted (lowest_free ss) 0)
+    (e₅ : link ≡ link_of sizes.sites held asked) (e₆ : books ≡ seen_of 0 link l) where
+  own : refusal_in sizes ws (sight_of sizes (lent ws ss l) asked) asked ≡ step_refusal sizes ws (sight_of sizes (lent ws ss l) asked) asked
+  unfolding refusal_of step_refusal
+  own = sound_judged sizes (lent ws ss l) asked sound
 
-pub acted : (refused : ℕ) (sizes : Run) (ws : List ℕ) (ss : List Parcel) (l : Ledger) (asked : Step) (at : ℕ) (held : Parcel) (wanted : Bool) (free link : ℕ) (books : Seen) (v : Verdict) (ws' : List ℕ) (ss' : List Parcel) (l' : Ledger)
-    → (refused ≡ 0 → StateSound sizes (lent ws ss l)) → length l.pairs ≡ 256 → at ≡ slot_of asked → held ≡ get_or ss at no_parcel → wanted ≡ takes_slot asked → free ≡ cond wanted (lowest_free ss) 0
-    → link ≡ link_of sizes.sites held asked → books ≡ seen_of 0 link l
-    → (v ≡ verdict_under refused sizes ws (looked_at free held (length ss) books) asked) × (ws' ≡ words_under refused sizes ws (looked_at free held (length ss) books) asked)
-    → l' ≡ booked_ledger M v.counter v.link v.pair l → ss' ≡ set ss v.at v.parcel
-    → Acted refused sizes (lent ws ss l) asked (answer_in v) (lent ws' ss' l')
-acted refused sizes ws ss l asked at held wanted free link books v ws' ss' l' clear whole e₁ e₂ e₃ e₄ e₅ e₆ e₇ e₈ e₉ =
-    rw (e₈, e₉) (by_refused sizes ws ss l whole asked free (rw e₃ at e₄) refused clear v (rw (e₆, e₅, e₂, e₁) at e₇.0) ws' (rw (e₆, e₅, e₂, e₁) at e₇.1))
+  same : (step_verdict sizes ws (looked_at free held (length ss) books) asked ≡ verdict_by (refusal_in sizes ws (sight_of sizes (lent ws ss l) asked) asked) sizes ws (sight_of sizes (lent ws ss l) asked) asked)
+      × (step_words sizes ws (looked_at free held (length ss) books) asked ≡ unless_refused (refusal_in sizes ws (sight_of sizes (lent ws ss l) asked) asked) ws (effect sizes ws (sight_of sizes (lent ws ss l) asked) asked).gain.words)
+  same = rw (own, e₆, e₅, e₂, e₁) (same_sight sizes ws ss l asked free (rw e₃ at e₄))
+
+  pub took : (t : Taken) (ws' : List ℕ) (ss' : List Parcel) (l' : Ledger) → as_verdict (length ss) (Ok t) ≡ step_verdict sizes ws (looked_at free held (length ss) books) asked
+      → ws' ≡ step_words sizes ws (looked_at free held (length ss) books) asked → l' ≡ booked_ledger M t.counter t.link t.pair l → ss' ≡ set ss t.at t.parcel
+      → Stepped sizes (lent ws ss l) asked (as_answer (Ok t.value)) (lent ws' ss' l')
+  took t ws' ss' l' e f g h = rw (g, h) (by_accepted sizes ws ss l asked (refusal_of sizes (lent ws ss l) asked) refl (as_verdict (length ss) (Ok t)) refl (e ∙ same.0) ws' (f ∙ same.1))
+
+  pub refused : (n : Refusal) (ws' : List ℕ) → as_verdict (length ss) (Err n) ≡ step_verdict sizes ws (looked_at free held (length ss) books) asked
+      → ws' ≡ step_words sizes ws (looked_at free held (length ss) books) asked → Stepped sizes (lent ws ss l) asked (as_answer (Err n)) (lent ws' ss l)
+  refused n ws' e f = by_refused sizes ws ss l asked (refusal_of sizes (lent ws ss l) asked) refl (as_verdict (length ss) (Err n)) (λ z. let k = numbered n in omega (arith, z)) (e ∙ same.0) ws' (f ∙ same.1)
 
 -- ---- the judge before the step
 -- the judge, from what it was handed
@@ -120,32 +120,22 @@ judged_all run ws ss l scan books judged e b f = rw (e, b) at f
 pub scanned_low : (sites : ℕ) (ss : List Parcel) (scan : Scan) → scan ≡ scan_of M sites ss → scan.free ≤ lowest_free ss
 scanned_low sites ss scan e = rw e (le_refl (lowest_free ss))
 
-pub judged_step : (run : Run) (s : State) (step : Step) (judged : ℕ) (r : Answer) (left : State) → judged ≡ judged_of run s → Acted judged run s step r left → Stepped run s step r left
-unfolding answer_under after_under after
-judged_step run s step zero r left e did = record { answer = did.answer; state = did.state }
-judged_step run s step (suc k) r left e did =
-    let first : refusal_of run s step ≡ suc k = judged_first run s step k (sym e) in
-    record { answer = did.answer ∙ rw first refl; state = did.state ∙ rw first refl }
+unmoved : (run : Run) (s : State) (step : Step) (k : ℕ) → refusal_of run s step ≡ suc k → s ≡ after run s step
+unfolding after
+unmoved run s step k e = rw e refl
+
+-- what it refuses, it refuses each step
+pub judged_step : (run : Run) (s : State) (step : Step) (n : Refusal) → number_of n ≡ judged_of run s → Stepped run s step (as_answer (Err n)) s
+judged_step run s step n e = go (number_of n) refl
+  where
+    go : (k : ℕ) → number_of n ≡ k → Stepped run s step (as_answer (Err n)) s
+    go zero z = absurd (let k = numbered n in omega arith)
+    go (suc k) z =
+        let first : refusal_of run s step ≡ suc k = judged_first run s step k (sym e ∙ z) in
+        record { answer = rw (z, first) refl; state = unmoved run s step k first }
 
 -- ---- the lag query
 pub lagged : (run : Run) (ws : List ℕ) (ss : List Parcel) (l : Ledger) (from to : ℕ) (scan : Scan) (link : ℕ) (books : Seen) (r : Lag) → scan ≡ scan_of M run.sites ss → link ≡ link_between run.sites from to
     → books ≡ seen_of run.sites link l → r ≡ lag_in run ws (seen_as scan no_parcel (length ss) books) from to → r ≡ lag_answer run (lent ws ss l) from to
 unfolding lag_answer
 lagged run ws ss l from to scan link books r e₁ e₂ e₃ e₄ = rw (e₁, e₃, e₂) at e₄
-
--- ---- a fresh run
-fresh_by : (run : Run) (first : ℕ) (ws : List ℕ) (ss : List Parcel) (l : Ledger) (r : ℕ) → fresh_refusal run (length ws) (length ss) ≡ r
-    → lent (unless_refused r ws (replicate (length ws) 0)) (cleared (cond (eqb r 0) (length ss) 0) ss) (started_if (eqb r 0) run.sites first l) ≡ state_by r (lent ws ss l) (empty run first (lent ws ss l))
-unfolding started_if cleared
-fresh_by run first ws ss l zero e = refl
-fresh_by run first ws ss l (suc r) e = rw (ne_eqb (suc r) 0 (omega arith)) refl
-
-pub freshened : (sizes : Run) (first : ℕ) (ws : List ℕ) (ss : List Parcel) (l : Ledger) (refusal count : ℕ) (ws' : List ℕ) (ss' : List Parcel) (l' : Ledger)
-    → (refusal ≡ fresh_refusal sizes (length ws) (length ss)) × (ws' ≡ fresh_words sizes ws (length ss)) → count ≡ slots_to_clear refusal (length ss)
-    → ss' ≡ cleared count ss → l' ≡ started_if (eqb refusal 0) sizes.sites first l
-    → Freshened sizes first (lent ws ss l) refusal (lent ws' ss' l')
-unfolding fresh_words slots_to_clear after_fresh
-freshened sizes first ws ss l refusal count ws' ss' l' e₁ e₂ e₃ e₄ = record {
-  refusal = e₁.0;
-  state = rw (e₁.1, e₃, e₂, e₄, e₁.0) (fresh_by sizes first ws ss l (fresh_refusal sizes (length ws) (length ss)) refl);
-}

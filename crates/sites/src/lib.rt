@@ -3,8 +3,7 @@
 // `steps`.
 #![tactic(auto)]
 
-mod begin;
 mod lags;
 mod lent;
 
-pub use lent::{act, fresh, lag, step};
+pub use lent::{fresh, lag, step, take};

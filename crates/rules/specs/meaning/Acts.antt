@@ -21,6 +21,10 @@ judged_of run s = first_given (judge_tests run s.words (sight_with no_parcel no_
 abbrev pub Clear : ℕ → ℕ → Run → State → Type 0
 Clear refused low run s = (refused ≡ 0 → StateSound run s) × (low ≤ lowest_free s.slots)
 
+-- a sound state, no slot of which below `low` is free
+abbrev pub Standing : ℕ → Run → State → Type 0
+Standing low run s = StateSound run s × (low ≤ lowest_free s.slots)
+
 unfoldable pub answer_under : ℕ → Run → State → Step → Answer
 answer_under zero run s step = answer_of run s step
 answer_under (suc r) run s step = answer (suc r) 0

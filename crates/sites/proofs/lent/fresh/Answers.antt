@@ -1,9 +1,13 @@
--- What the four callees ensure, put together (`freshened`).
-use Rattle.sites.proofs.Outcomes.{freshened}
+-- By the sizes (`Beginning`).
+use Rattle.std.proofs.Common.{sym}
+use Rattle.sites.proofs.Beginning.{begun, not_begun}
 use Rattle.sites.proofs.lent.fresh.Goals as goal
+
+pub returns-then-not-sizes_right : goal.returns-then-not-sizes_right
+returns-then-not-sizes_right c =
+    let a = c.args in not_begun a.run a.first a.words.now a.slots.now a.ledger.now (sym c.if-not-sizes_right.ensures)
 
 pub returns : goal.returns
 returns c =
     let a = c.args in
-    freshened a.run a.first a.words.now a.slots.now a.ledger.now c.clear_words-refusal.result c.slots_to_clear-count.result c.clear_words-refusal.new.words c.clear_slots.new.slots c.start.new.ledger
-    c.clear_words-refusal.ensures c.slots_to_clear-count.ensures c.clear_slots.ensures c.start.ensures
+    begun a.run a.first a.words.now a.slots.now a.ledger.now (sym c.if-not-sizes_right.ensures) _ _ _ (c.fill.ensures.after (λ y e. e)) c.clear_slots.ensures c.start.ensures
