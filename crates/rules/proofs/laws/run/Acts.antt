@@ -19,7 +19,7 @@ use Rattle.rules.proofs.laws.run.Slots.{set_lowest}
 use Rattle.rules.proofs.laws.table.View.{parts}
 use Rattle.rules.specs.meaning.Refusals.{Test, first_given}
 use Rattle.rules.specs.meaning.States.{State, width, sizes_right, tables_sound, all_sound, StateSound, sight_with}
-use Rattle.rules.specs.meaning.Runs.{judge_tests, refusal_in, refusal_of, value_of, state_by, moved, after, effect_of}
+use Rattle.rules.specs.meaning.Runs.{judge_tests, refusal_in, refusal_of, value_of, state_by, moved, after, effect_of, Stepped}
 use Rattle.rules.proofs.laws.run.Steps.{pass}
 use Rattle.rules.specs.meaning.Acts.{judged_of, Clear, answer_under, after_under, Acted, low_taken, low_after}
 use Rattle.rules.proofs.laws.run.Rows.{owed}
@@ -80,6 +80,10 @@ module _ (run : Run) (s : State) (low : ℕ) (under : low ≤ lowest_free s.slot
       let told = (owed run s step).parcels.low low under in
       set_lowest s.slots (effect_of run s step).post.place (effect_of run s step).post.parcel (low_taken low step (value_of run s step)) told.0 told.1
   by_refusal step (suc r) = rw (refused_low step r (value_of run s step)) under
+
+  pub low_stepped : (step : Step) (r : Answer) (left : State) → Stepped run s step r left → low_after low step r ≤ lowest_free left.slots
+  unfolding after
+  low_stepped step r left did = rw (did.answer, did.state) (by_refusal step (refusal_of run s step))
 
   pub low_kept : (refused : ℕ) (step : Step) (r : Answer) (left : State) → Acted refused run s step r left → low_after low step r ≤ lowest_free left.slots
   unfolding answer_under after_under after
