@@ -124,4 +124,3 @@ fits_all es room h r = le-leb (length (group_bytes es)) room (omega (arith, grou
 
 pub ruleset fit = (group_few, fits_all, le-leb)
 
-pub ruleset layings = (laying_none, laying_end, laid_end, laid_group, count_first)
