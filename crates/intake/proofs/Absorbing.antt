@@ -1,9 +1,11 @@
 -- A group's bytes absorbed, once the judge has spoken: its refusals at known tests, and what the table's answer makes of it.
-use Prim.Native.Nat.{ℕ, zero, suc, ◌*◌, ◌≤◌, ◌<◌}
+use Prim.Native.Nat.{ℕ, zero, suc, ◌+◌, ◌*◌, ◌≤◌, ◌<◌}
 use native.Mathlib.Omega.{arith}
 use mathlib.Core.Bool.{Bool, true, false, cond}
 use mathlib.Core.Path.{◌≡◌, refl, ◌∙◌}
 use mathlib.Core.List.{List}
+use denote.Enum.Declared.{tag_of}
+use Rattle.rules.specs.contracts.Refusal.{the_type}
 use lib.Dec.{eqb}
 use lib.ListN.{length, take}
 use borrow.Author.Tests.{le-leb, lt-leb, le-ltb, ne_eqb}
@@ -13,7 +15,9 @@ use Rattle.rules.specs.declared.Run.{Run}
 use Rattle.rules.specs.declared.Sight.{Sight}
 use Rattle.rules.specs.meaning.Table.{merged}
 use Rattle.rules.specs.meaning.Operations.{merge_refusal, merge_answer, merge_table}
-use Rattle.rules.specs.meaning.Refusals.{first_given}
+use Rattle.rules.specs.declared.Refusal.{Refusal}
+use Rattle.rules.specs.declared.Refusal.TheVariants.{BadSizes, Unsound, NoSite, SameSite, NoParcel, NothingToSend, LengthsOut, NoRoom, NoSlot, CountFull, NoStep, InputLong, ShortBuffer, ManyIds, NoOrder, NothingHeard, NoGroup}
+use Rattle.rules.specs.meaning.Refusals.{first_given, number_of}
 use Rattle.rules.specs.meaning.States.{table_at, with_table}
 use Rattle.rules.specs.meaning.Groups.{entries_in, forms_none, read_refusal, entries_read, Entered}
 use Rattle.rules.specs.meaning.Events.{absorb_tests, absorb_refusal}
@@ -24,6 +28,29 @@ use Rattle.judge.proofs.Judging.{judged_first, judged_ready}
 use Rattle.steps.specs.Verdicts.{Ready}
 use Rattle.steps.proofs.Tables.{kept}
 use Rattle.intake.specs.Values.{refused_answer, answer_seen, words_seen}
+
+-- the number that a refusal is cast to, and that it is not that of none
+pub number_is : (r : Refusal) → tag_of the_type r + 1 ≡ number_of r
+number_is BadSizes = refl
+number_is Unsound = refl
+number_is NoSite = refl
+number_is SameSite = refl
+number_is NoParcel = refl
+number_is NothingToSend = refl
+number_is LengthsOut = refl
+number_is NoRoom = refl
+number_is NoSlot = refl
+number_is CountFull = refl
+number_is NoStep = refl
+number_is InputLong = refl
+number_is ShortBuffer = refl
+number_is ManyIds = refl
+number_is NoOrder = refl
+number_is NothingHeard = refl
+number_is NoGroup = refl
+
+pub some_number : (r : Refusal) → number_of r ≡ 0 → ⊥
+some_number r e = omega (arith, number_is r)
 
 -- a group read into 128 words, which are room for any
 module _ (bytes before after : List ℕ) (r : Grouped) (size : length before ≡ 128) (read : Entered bytes before r after) where

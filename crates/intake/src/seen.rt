@@ -41,13 +41,8 @@ pub(crate) fn absorb_seen(
         return refuse(3);
     }
     let mut group = [0u64; GROUP_WORDS];
-    let told = read_group(bytes, &mut group);
-    if told.refusal != 0 {
-        return refuse(told.refusal);
+    match read_group(bytes, &mut group) {
+        Ok(count) => merge(&mut words[part_of(run, site)], &group[..2 * count]),
+        Err(refusal) => refuse(refusal as u32),
     }
-    let part = part_of(run, site);
-    let from = part.from;
-    let to = part.to;
-    let many = 2 * told.count;
-    merge(&mut words[from..to], &group[..many])
 }

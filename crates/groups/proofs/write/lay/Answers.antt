@@ -4,37 +4,43 @@ use native.Mathlib.Omega.{arith}
 use lib.ListN.{length}
 use Rattle.rules.specs.meaning.Groups.{group_bytes}
 use Rattle.rules.proofs.laws.group.Leb.{leb_some}
-use Rattle.groups.proofs.Layings.{less, laying_turn, laying_more, laying_end, laid_more, laid_end}
+use Rattle.groups.proofs.Layings.{less_of, laying_none, laying_turn, laying_more, laying_end, laid_more, laid_end, laid_group, rest_is}
 use Rattle.groups.proofs.write.lay.Goals as goal
 
-pub overflow_sub-id : goal.overflow_sub-id
-overflow_sub-id c = omega (arith, (laying_turn _ _ _ _ _ _ c.loop-id.invariant.laying c.loop-id-test.true).low)
+pub loop-left-init : goal.loop-left-init
+loop-left-init c = record {
+  laying = laying_none _ _ c.requires.0 (omega (arith, c.write_leb-place.ensures.0));
+  laid = laid_group _ _ _ _ c.requires.1 c.write_leb-place.ensures.0 c.write_leb-place.ensures.1;
+}
 
-pub overflow_sub-id-in-loop-id : goal.overflow_sub-id-in-loop-id
-overflow_sub-id-in-loop-id c = omega (arith, (laying_turn _ _ _ _ _ _ c.loop-id.invariant.laying c.loop-id-test.true).low)
+pub overflow_sub-id : goal.overflow_sub-id
+overflow_sub-id c = omega (arith, (laying_turn _ _ _ _ _ c.loop-left.invariant.laying c.in-len2-up.len_at_least).low)
+
+pub overflow_sub-id-in-len2-up : goal.overflow_sub-id-in-len2-up
+overflow_sub-id-in-len2-up c = omega (arith, (laying_turn _ _ _ _ _ c.loop-left.invariant.laying c.in-len2-up.len_at_least).low)
 
 pub write_gap-middle-requires : goal.write_gap-middle-requires
 write_gap-middle-requires c =
-    omega (arith, (laying_turn _ _ _ _ _ _ c.loop-id.invariant.laying c.loop-id-test.true).room, leb_some (less c.as_chunks.result.0.now c.loop-id.id-index))
+    omega (arith, (laying_turn _ _ _ _ _ c.loop-left.invariant.laying c.in-len2-up.len_at_least).split, leb_some (less_of c.loop-left.left.now))
 
 pub overflow_sub-length : goal.overflow_sub-length
-overflow_sub-length c = (laying_turn _ _ _ _ _ _ c.loop-id.invariant.laying c.loop-id-test.true).some
+overflow_sub-length c = (laying_turn _ _ _ _ _ c.loop-left.invariant.laying c.in-len2-up.len_at_least).some
 
-pub write_leb-place-requires-in-loop-id : goal.write_leb-place-requires-in-loop-id
-write_leb-place-requires-in-loop-id c =
-    omega (arith, (laying_turn _ _ _ _ _ _ c.loop-id.invariant.laying c.loop-id-test.true).room, c.write_gap-middle.ensures.0)
+pub write_leb-place-requires-in-len2-up : goal.write_leb-place-requires-in-len2-up
+write_leb-place-requires-in-len2-up c =
+    omega (arith, (laying_turn _ _ _ _ _ c.loop-left.invariant.laying c.in-len2-up.len_at_least).split, c.write_gap-middle.ensures.0)
 
-pub loop-id-preserved : goal.loop-id-preserved
-loop-id-preserved c =
-    let l = c.loop-id in
+pub loop-left-preserved : goal.loop-left-preserved
+loop-left-preserved c =
+    let l = c.loop-left in
     let room : length (group_bytes c.args.entries.now) ≤ length l.out = omega arith in
-    let written = c.write_leb-place-in-loop-id.ensures in
+    let written = c.write_leb-place-in-len2-up.ensures in
     record {
-      laying = laying_more _ _ _ _ _ _ l.invariant.laying c.loop-id-test.true _ (omega (arith, c.write_gap-middle.ensures.0, written.0));
-      laid = laid_more _ _ _ _ _ _ _ _ _ _ _ _ l.invariant.laying c.loop-id-test.true room c.write_gap-middle.ensures c.write_gap-middle.auto.out written.0 written.1 l.invariant.laid;
+      laying = laying_more _ _ _ _ _ l.invariant.laying _ _ c.in-len2-up.len_at_least (rest_is l.left.now) (omega (arith, c.write_gap-middle.ensures.0, written.0));
+      laid = laid_more _ _ _ _ _ l.invariant.laying _ _ l.invariant.laid _ _ _ _ _ c.in-len2-up.len_at_least (rest_is l.left.now) room c.write_gap-middle.ensures c.write_gap-middle.auto.out written.0 written.1;
     }
 
 pub returns : goal.returns
 returns c =
-    let l = c.loop-id in
-    (laying_end _ _ _ _ _ _ l.invariant.laying c.loop-id-test.false, laid_end _ _ _ _ _ _ _ _ l.invariant.laying c.loop-id-test.false l.invariant.laid)
+    let l = c.loop-left in
+    (laying_end _ _ _ _ _ l.invariant.laying c.in_default.len_below, laid_end _ _ _ _ _ l.invariant.laying _ _ l.invariant.laid c.in_default.len_below)
