@@ -100,7 +100,7 @@ module _ (run : Run) (ws : List ℕ) (ok : Repairable run ws) where
         sym (lt-leb (distinct (ids_of_all (all_tables run ws))) run.capacity (omega (arith, few, ids_distinct M both ok, packed_held next.packed)))
 
   -- no site is left: they fit, and with unused places behind them are the table of site 0 with all others taken in
-  pub gather_end : (k n : ℕ) (es : List ℕ) → Gathered run ws k es → run.sites ≤ k → n ≤ run.capacity → length es ≡ 2 * n
+  gather_end : (k n : ℕ) (es : List ℕ) → Gathered run ws k es → run.sites ≤ k → n ≤ run.capacity → length es ≡ 2 * n
       → (true ≡ fit_together run.capacity (all_tables run ws)) × (padded run.capacity n es ≡ gathered run ws)
   unfolding in_turn entries_of_all largest gathered
   gather_end k n es so_far last small long =

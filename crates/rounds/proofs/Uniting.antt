@@ -2,7 +2,7 @@
 -- the larger of its two lengths. Then how such a list and a table go over into each other.
 -- Assumes nothing.
 use Prim.Native.Nat.{ℕ, zero, suc, ◌*◌, ◌≤◌, ◌<◌}
-use native.Mathlib.Nat.{le_refl, le_trans}
+use native.Mathlib.Nat.{le_refl}
 use native.Mathlib.Omega.{arith}
 use mathlib.Core.Path.{◌≡◌, refl, sym, ◌∙◌}
 use mathlib.Core.List.{List, [], ◌∷◌, ◌++◌}
@@ -37,18 +37,7 @@ pub united_both : (e n x m : ℕ) (t s : List ℕ) → e ≡ x → united (e ∷
 unfolding united beside
 united_both e n x m t s h = rw (le-ltb e x (omega arith), le-ltb x e (omega arith))
 
--- entries united with none stay
-pub united_none : (a : List ℕ) → {lo : ℕ} → Packed lo a → united a [] ≡ a
-unfolding united beside
-united_none a no_entry = refl
-united_none a (entry l h p) = refl
-
 -- ---- a list of entries in use
--- ids from lo up are ids from any smaller number up
-pub packed_lower : {lo lo' : ℕ} {t : List ℕ} → lo' ≤ lo → Packed lo t → Packed lo' t
-packed_lower q no_entry = no_entry
-packed_lower q (entry l h p) = entry (le_trans q l) h p
-
 -- seen as a table with no unused place
 packed_seen : {lo : ℕ} {t : List ℕ} → Packed lo t → Sound M lo t
 packed_seen no_entry = rest none

@@ -3,7 +3,7 @@ ghost use Rattle.std.specs.Prelude.{◌≡◌, ◌≤◌, length};
 ghost use Rattle.rules.specs.meaning.States.{width};
 ghost use Rattle.rounds.specs.Values.{Repairable, Evened};
 
-use crate::hand::settle;
+use crate::hand::{copy, settle};
 use crate::level::level;
 use crate::tables::in_use;
 use crate::union::unite;
@@ -23,7 +23,7 @@ fn even_in<'a>(
     ensures { Evened run words.old result words.new }
 {
     let own = in_use(words, run, 0);
-    here[..own.len()].copy_from_slice(own);
+    copy(&mut here[..own.len()], own);
     let mut entries = own.len() / 2;
     for site in 1..run.sites {
         let own = in_use(words, run, site);

@@ -6,15 +6,15 @@ ghost use Rattle.rounds.specs.Values.{Repairable};
 use crate::tables::table_at;
 use rules::Run;
 
-// Whether two tables of one size are the same. No early exit: the loop has no branch to guess. `==` on slices has one, and takes a third longer where all
-// tables are equal.
+// Whether two tables of one size are the same. No early exit: the loop has no branch to guess. `==` on slices has one, and of a zip the compiler makes a loop
+// without wide registers: a round of equal tables takes 35 or 12 in 100 longer.
 fn same(table: &[u64], other: &[u64]) -> bool
     requires { length table.now ≡ length other.now }
     ensures { result ≡ true → table.now ≡ other.now }
 {
     let mut alike = true;
-    for (word, its) in table.iter().zip(other) {
-        alike &= word == its;
+    for k in 0..table.len() {
+        alike &= table[k] == other[k];
     }
     alike
 }

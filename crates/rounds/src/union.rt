@@ -2,6 +2,7 @@
 ghost use Rattle.std.specs.Prelude.{◌≡◌, ◌+◌, ◌*◌, ◌/◌, ◌≤◌, ◌<◌, ◌++◌, length as size, take, set};
 ghost use Rattle.rounds.specs.Unions.{Joins, Laid, Whole, Ended};
 
+use crate::hand::copy;
 use lengths::join;
 
 // How far the walk has come: the entries passed of the one and of the other, and those that are laid.
@@ -78,7 +79,7 @@ fn append(out: &mut [u64], at: usize, rest: &[u64])
     requires out_bound { size out.old ≤ 4096 }
     ensures { take (at + size rest.now) out.new ≡ take at out.old ++ rest.now }
 {
-    out[at..at + rest.len()].copy_from_slice(rest);
+    copy(&mut out[at..at + rest.len()], rest);
 }
 
 // All entries of both, and how many they are; or none, where there are not places for all of them.

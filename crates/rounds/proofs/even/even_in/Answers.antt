@@ -9,12 +9,12 @@ pub loop-site-init : goal.loop-site-init
 loop-site-init c =
     let a = c.args in
     let own = c.in_use-own in
-    let copied = c.copy_from_slice.ensures.after in
+    let copied = c.copy.ensures in
     let whole : 2 * (length own.result.now / 2) ≡ length own.result.now = omega (arith, own.ensures.fits) in
     record {
-      so_far = rw (whole, take_at c.copy_from_slice.new.self (drop (length own.result.now) a.here.now) (length own.result.now) (ap length copied), copied, own.ensures.value) (gather_start a.run a.words.now c.requires.repairable);
+      so_far = rw (whole, take_at c.copy.new.to (drop (length own.result.now) a.here.now) (length own.result.now) (ap length copied), copied, own.ensures.value) (gather_start a.run a.words.now c.requires.repairable);
       few = omega (arith, own.ensures.fits);
-      here_wide = length_front a.here.now c.copy_from_slice.new.self (length own.result.now) c.copy_from_slice.auto.self ∙ c.requires.wide.0;
+      here_wide = length_front a.here.now c.copy.new.to (length own.result.now) c.copy.auto.to ∙ c.requires.wide.0;
       there_wide = c.requires.wide.1;
     }
 
