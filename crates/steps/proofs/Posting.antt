@@ -1,20 +1,17 @@
 -- A send of an id that is not held, and of one that is.
 -- Assumes nothing.
-use Rattle.std.specs.Prelude.{ℕ, ◌+◌, ◌*◌, ◌-◌, ◌<◌, ◌≡◌, List, length, take, drop, Option, Some, None}
-use Rattle.std.proofs.Common.{arith, sym, ap, ◌∙◌}
+use Rattle.std.specs.Prelude.{ℕ, ◌<◌, ◌≡◌, List}
 use borrow.Author.Tests.{lt-leb, eq-eqb, ne_eqb}
 use Rattle.rules.specs.declared.Run.{Run}
 use Rattle.rules.specs.declared.Sight.{Sight}
 use Rattle.rules.specs.declared.Step.TheVariants.{Send}
-use Rattle.rules.specs.meaning.Table.{length_at, found_of, length_of}
+use Rattle.rules.specs.meaning.Table.{length_of}
 use Rattle.rules.specs.meaning.Links.{sent_pair}
 use Rattle.rules.specs.meaning.Ledgers.{sent_counter}
 use Rattle.rules.specs.meaning.Refusals.{first_given}
-use Rattle.rules.specs.meaning.States.{width, table_at}
+use Rattle.rules.specs.meaning.States.{table_at}
 use Rattle.rules.specs.meaning.Steps.{effect}
-use Rattle.table.proofs.Raising.{place, its, above_zero, none}
-use Rattle.steps.specs.Verdicts.{Ready, posted, step_refusal, step_verdict}
-use Rattle.steps.proofs.Tables.{site_sound, site_length, part_is, part_sound, told_of}
+use Rattle.steps.specs.Verdicts.{posted, step_refusal, step_verdict}
 
 -- ---- send
 module _ (run : Run) (ws : List ℕ) (si : Sight) (f t e : ℕ) (from_in : f < run.sites) (to_in : t < run.sites) (other : f ≡ t → ⊥) where

@@ -3,11 +3,9 @@ use Rattle.std.proofs.Common.{ℕ, ◌≡◌, ◌≤◌, ◌<◌, ◌+◌, ◌-�
 use lib.ListN.{length-set}
 use Rattle.rules.specs.declared.Answer.{Answer}
 use Rattle.rules.specs.declared.Run.{Run}
-use Rattle.rules.specs.meaning.Acts.{Acted}
 use Rattle.rules.specs.meaning.Calls.{named_answer, named_after}
-use Rattle.rules.specs.meaning.Parcels.{lowest_free}
 use Rattle.rules.specs.meaning.States.{State, lent, StateSound}
-use Rattle.rules.proofs.laws.run.Acts.{judged_sound, low_kept}
+use Rattle.rules.proofs.laws.run.Acts.{judged_sound}
 use Rattle.rules.proofs.laws.run.Bursts.{named_sound}
 use Rattle.sites.proofs.Outcomes.{judged_all, scanned_low}
 use Rattle.bursts.specs.Asks.{named_at, noted, number_of}

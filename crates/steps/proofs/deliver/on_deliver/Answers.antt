@@ -1,5 +1,5 @@
 -- `steps::deliver::on_deliver`: by its tests in order.
-use Rattle.std.proofs.Common.{refl, ℕ, List, sym, ap, arith, ◌∙◌}
+use Rattle.std.proofs.Common.{refl, ℕ, List, sym, ap, ◌∙◌}
 use borrow.Author.Tests.{not-true, not-false}
 use Rattle.rules.specs.declared.Answer.{Answer}
 use Rattle.rules.specs.meaning.Lengths.{join}
@@ -7,7 +7,7 @@ use Rattle.rules.specs.meaning.Table.{length_of, held_with}
 use Rattle.rules.specs.meaning.Operations.{crowded, absorb_answer, absorb_table}
 use Rattle.steps.specs.Verdicts.{delivered}
 use Rattle.steps.proofs.Delivering.{deliver_none, deliver_unordered, deliver_crowded, deliver_full, deliver_step}
-use Rattle.steps.proofs.Tables.{part_end, part_sound, told_of, put_of, refused_law}
+use Rattle.steps.proofs.Tables.{part_sound, told_of, put_of, refused_law}
 use Rattle.steps.proofs.deliver.on_deliver.Goals as goal
 
 pub returns-then-not-is_there : goal.returns-then-not-is_there

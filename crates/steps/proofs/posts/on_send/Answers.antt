@@ -1,5 +1,5 @@
 -- `steps::posts::on_send`: by its tests in order.
-use Rattle.std.proofs.Common.{ℕ, List, arith, refl, sym, ◌∙◌}
+use Rattle.std.proofs.Common.{ℕ, List, refl, sym, ◌∙◌}
 use Rattle.rules.specs.declared.Step.TheVariants.{Send}
 use Rattle.rules.specs.meaning.Table.{length_of}
 use Rattle.rules.specs.meaning.Steps.{effect}
