@@ -6,35 +6,35 @@ use Rattle.table.proofs.Raising.{place, its, above_zero, raise_here, none, raise
 use Rattle.table.proofs.raise.absorb.Goals as goal
 
 pub overflow_mul-i : goal.overflow_mul-i
-overflow_mul-i c = omega (arith, place c.args.table.now c.args.id c.in-Some.i c.requires (sym c.in-Some.ensures))
+overflow_mul-i c = omega (arith, place c.args.table.now c.args.id c.in-At.i c.requires (sym c.in-At.ensures))
 
 pub overflow_add-i : goal.overflow_add-i
-overflow_add-i c = omega (arith, place c.args.table.now c.args.id c.in-Some.i c.requires (sym c.in-Some.ensures))
+overflow_add-i c = omega (arith, place c.args.table.now c.args.id c.in-At.i c.requires (sym c.in-At.ensures))
 
 pub offset_bounds-table-i : goal.offset_bounds-table-i
-offset_bounds-table-i c = omega (arith, place c.args.table.now c.args.id c.in-Some.i c.requires (sym c.in-Some.ensures))
+offset_bounds-table-i c = omega (arith, place c.args.table.now c.args.id c.in-At.i c.requires (sym c.in-At.ensures))
 
 pub overflow_mul-table : goal.overflow_mul-table
-overflow_mul-table c = omega (arith, place c.args.table.now c.args.id c.in-Some.i c.requires (sym c.in-Some.ensures))
+overflow_mul-table c = omega (arith, place c.args.table.now c.args.id c.in-At.i c.requires (sym c.in-At.ensures))
 
 pub overflow_add-table : goal.overflow_add-table
-overflow_add-table c = omega (arith, place c.args.table.now c.args.id c.in-Some.i c.requires (sym c.in-Some.ensures))
+overflow_add-table c = omega (arith, place c.args.table.now c.args.id c.in-At.i c.requires (sym c.in-At.ensures))
 
-pub offset_bounds-table-i-in-Some : goal.offset_bounds-table-i-in-Some
-offset_bounds-table-i-in-Some c = omega (arith, place c.args.table.now c.args.id c.in-Some.i c.requires (sym c.in-Some.ensures))
+pub offset_bounds-table-i-in-At : goal.offset_bounds-table-i-in-At
+offset_bounds-table-i-in-At c = omega (arith, place c.args.table.now c.args.id c.in-At.i c.requires (sym c.in-At.ensures))
 
 pub bounds-table-i : goal.bounds-table-i
-bounds-table-i c = place c.args.table.now c.args.id c.in-Some.i c.requires (sym c.in-Some.ensures)
+bounds-table-i c = place c.args.table.now c.args.id c.in-At.i c.requires (sym c.in-At.ensures)
 
-pub bounds-table-i-in-Some : goal.bounds-table-i-in-Some
-bounds-table-i-in-Some c = place c.args.table.now c.args.id c.in-Some.i c.requires (sym c.in-Some.ensures)
+pub bounds-table-i-in-At : goal.bounds-table-i-in-At
+bounds-table-i-in-At c = place c.args.table.now c.args.id c.in-At.i c.requires (sym c.in-At.ensures)
 
-pub returns-in-Some : goal.returns-in-Some
-returns-in-Some c =
+pub returns-in-At : goal.returns-in-At
+returns-in-At c =
     let t = c.args.table.now in
-    let found = sym c.in-Some.ensures in
+    let found = sym c.in-At.ensures in
     let n = c.args.length in
-    let r = raise_here t c.args.id c.in-Some.i c.requires found c.join-after.result _ (c.join-after.ensures ∙ ap (λ (m : ℕ). join m n) (its t c.args.id c.in-Some.i c.requires found)) (omega (arith, above_zero t c.args.id c.in-Some.i c.requires found)) in
+    let r = raise_here t c.args.id c.in-At.i c.requires found c.join-after.result _ (c.join-after.ensures ∙ ap (λ (m : ℕ). join m n) (its t c.args.id c.in-At.i c.requires found)) (omega (arith, above_zero t c.args.id c.in-At.i c.requires found)) in
     record { value = r.0; table_after = r.1 }
 
 pub returns-then-length-eq0 : goal.returns-then-length-eq0

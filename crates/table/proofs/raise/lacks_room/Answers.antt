@@ -5,11 +5,11 @@ use Rattle.rules.specs.meaning.Table.{length_of}
 use Rattle.table.proofs.Raising.{above_zero, none, room_here, room_new}
 use Rattle.table.proofs.raise.lacks_room.Goals as goal
 
-pub returns-in-Some : goal.returns-in-Some
-returns-in-Some c =
+pub returns-in-At : goal.returns-in-At
+returns-in-At c =
     let t = c.args.table.now in
-    let found = sym c.in-Some.ensures in
-    room_here t c.args.id (join (length_of t c.args.id) c.args.length) c.requires (λ z. absurd (omega (arith, z, above_zero t c.args.id c.in-Some.i c.requires found)))
+    let found = sym c.in-At.ensures in
+    room_here t c.args.id (join (length_of t c.args.id) c.args.length) c.requires (λ z. absurd (omega (arith, z, above_zero t c.args.id c.in-At.i c.requires found)))
 
 pub returns-then-length-eq0 : goal.returns-then-length-eq0
 returns-then-length-eq0 c =
