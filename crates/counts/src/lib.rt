@@ -9,30 +9,20 @@ use rules::{Counts, M};
 
 // Whether each counter is at most the largest, and what went out is what came in or waits. The counters are bounded before they are
 // added, and the difference is compared, so that nothing wraps however many are said to wait.
+#[tactic(auto, unfolding(rules::specs::meaning::Ledgers::counts_sound))]
 pub fn sound(counts: Counts, waiting: u64) -> bool
     ensures { result ≡ counts_sound M waiting counts }
 {
-    if M < counts.sent {
-        return false;
-    }
-    if M < counts.copied {
-        return false;
-    }
-    if M < counts.absorbed {
-        return false;
-    }
-    if M < counts.lost {
+    if counts.sent > M || counts.copied > M || counts.absorbed > M || counts.lost > M {
         return false;
     }
     let out = counts.sent + counts.copied;
     let back = counts.absorbed + counts.lost;
-    if out < back {
-        return false;
-    }
-    out - back == waiting
+    back <= out && out - back == waiting
 }
 
 // One more, and no more than the largest.
+#[tactic(auto, unfolding(rules::specs::meaning::Ledgers::one_more))]
 fn one_more(n: u64) -> u64
     ensures { result ≡ one_more M n }
 {
@@ -40,6 +30,7 @@ fn one_more(n: u64) -> u64
 }
 
 // One more where this counter is the one that is named.
+#[tactic(auto, unfolding(rules::specs::meaning::Ledgers::raised_if))]
 fn raised_if(named: bool, n: u64) -> u64
     ensures { result ≡ raised_if M named n }
 {
@@ -50,15 +41,11 @@ fn raised_if(named: bool, n: u64) -> u64
 pub fn raised(counts: Counts, counter: u64) -> Counts
     ensures { result ≡ raised_counts M counter counts }
 {
-    let sent = raised_if(counter == 1, counts.sent);
-    let copied = raised_if(counter == 2, counts.copied);
-    let absorbed = raised_if(counter == 3, counts.absorbed);
-    let lost = raised_if(counter == 4, counts.lost);
     Counts {
-        sent,
-        copied,
-        absorbed,
-        lost,
+        sent: raised_if(counter == 1, counts.sent),
+        copied: raised_if(counter == 2, counts.copied),
+        absorbed: raised_if(counter == 3, counts.absorbed),
+        lost: raised_if(counter == 4, counts.lost),
     }
 }
 
@@ -66,14 +53,5 @@ pub fn raised(counts: Counts, counter: u64) -> Counts
 pub fn emptied(counts: Counts, wanted: bool) -> Counts
     ensures { result ≡ cond wanted no_counts counts }
 {
-    if wanted {
-        Counts {
-            sent: 0,
-            copied: 0,
-            absorbed: 0,
-            lost: 0,
-        }
-    } else {
-        counts
-    }
+    if wanted { Counts::default() } else { counts }
 }

@@ -9,25 +9,18 @@ ghost use Rattle.rules.specs.meaning.States.{sizes_right, tables_sound, all_soun
 ghost use Rattle.judge.specs.Judged.{Sized, seen_as, judgement};
 
 use parcels::no_parcel;
-use rules::{Run, Scan, Seen, Sight};
+use rules::{Refusal, Run, Scan, Seen, Sight};
 
 // Whether the sizes are within the ranges and the words are as many as the tables take.
+#[tactic(auto, using(crate::proofs::Judging::few_words), unfolding(rules::specs::meaning::States::sizes_right))]
 pub fn sizes_right(run: Run, words: usize, slots: usize) -> bool
     ensures { result ≡ sizes_right run words slots }
 {
-    if run.sites < 1 {
-        return false;
-    }
-    if 16 < run.sites {
-        return false;
-    }
-    if 2048 < run.capacity {
-        return false;
-    }
-    if 1024 < slots {
-        return false;
-    }
-    words as u64 == run.sites * (2 * run.capacity)
+    1 <= run.sites
+        && run.sites <= 16
+        && run.capacity <= 2048
+        && slots <= 1024
+        && words as u64 == run.sites * (2 * run.capacity)
 }
 
 // Whether each of the tables, one after the other, is sound. Every word is read once.
@@ -36,55 +29,46 @@ fn tables_sound(words: &[u64], sites: usize, width: usize) -> bool
     ensures { result ≡ tables_sound M width sites words.now }
 {
     let mut good = true;
-    let mut from = 0;
-    let mut k = 0;
-    while k < sites {
-        let to = from + width;
-        good = good & table::sound(&words[from..to]);
-        from = to;
-        k += 1;
+    for k in 0..sites {
+        let from = k * width;
+        good &= table::sound(&words[from..from + width]);
     }
     good
 }
 
 // Whether every table, slot and the ledger is as laid out.
+#[tactic(auto, unfolding(rules::specs::meaning::States::all_sound))]
 fn all_sound(words: &[u64], run: Run, seen: Sight) -> bool
     requires { Sized run (length words.now) }
     ensures { result ≡ all_sound run words.now seen }
 {
-    let scan = seen.scan;
-    let books = seen.books;
-    if tables_sound(words, run.sites as usize, 2 * run.capacity as usize) {
-        if scan.sound {
-            if counts::sound(books.counts, scan.waiting) {
-                return books.sound;
-            }
-        }
-    }
-    false
+    tables_sound(words, run.sites as usize, 2 * run.capacity as usize)
+        && seen.scan.sound
+        && counts::sound(seen.books.counts, seen.scan.waiting)
+        && seen.books.sound
 }
 
 // 1, 2, or 0 where neither is given.
+#[tactic(auto, using(crate::proofs::Judging::sized), unfolding(crate::specs::Judged::judgement, rules::specs::meaning::Refusals::first_given))]
 fn judge(words: &[u64], run: Run, seen: Sight) -> u32
     ensures { result ≡ judgement run words.now seen }
 {
-    if sizes_right(run, words.len(), seen.count) {
-        if all_sound(words, run, seen) {
-            return 0;
-        }
-        return 2;
+    if !sizes_right(run, words.len(), seen.count) {
+        Refusal::BadSizes as u32
+    } else if !all_sound(words, run, seen) {
+        Refusal::Unsound as u32
+    } else {
+        0
     }
-    1
 }
 
 // The same from the parts that a function has which is lent all three.
 pub fn judge_seen(words: &[u64], run: Run, scan: Scan, slots: usize, books: Seen) -> u32
     ensures { result ≡ judgement run words.now (seen_as scan no_parcel slots books) }
 {
-    let none = no_parcel();
     let seen = Sight {
         scan,
-        named: none,
+        named: no_parcel(),
         count: slots,
         books,
     };

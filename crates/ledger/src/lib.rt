@@ -9,24 +9,14 @@ ghost use Rattle.rules.specs.meaning.Links.{no_pair, links_sound};
 ghost use Rattle.rules.specs.meaning.Ledgers.{seen_of, booked_ledger, started_if};
 
 use counts::{emptied, raised};
-use links::{first_link, next_link, pair_sound, sites_of, sites_to_start, start_pair};
+use links::{links_of, pair_sound, sites_of, sites_to_start, start_pair};
 use rules::{Ledger, Pair, Seen};
 
 // The entry of a link. Past the last one there is none, and nothing is read.
 fn read_pair(ledger: &Ledger, link: usize) -> Pair
     ensures { result ≡ get_or ledger.now.pairs link no_pair }
 {
-    let pairs: &[Pair] = &ledger.pairs;
-    if link < pairs.len() {
-        pairs[link]
-    } else {
-        Pair {
-            next: 0,
-            heard: 0,
-            unsent: 0,
-            unheard: 0,
-        }
-    }
+    ledger.pairs.get(link).copied().unwrap_or_default()
 }
 
 // Whether the entry of each link of the run is sound. It goes from link to link, so no other entry is read; and it never stops early, so that a
@@ -34,14 +24,9 @@ fn read_pair(ledger: &Ledger, link: usize) -> Pair
 fn links_sound(ledger: &Ledger, sites: u64) -> bool
     ensures { result ≡ links_sound sites ledger.now.pairs }
 {
-    let n = sites_of(sites);
     let mut good = true;
-    let mut link = first_link(n);
-    while link.from < n {
-        let at = 16 * link.from + link.to;
-        let right = pair_sound(ledger.pairs[at]);
-        link = next_link(link, n);
-        good = good & right;
+    for link in links_of(sites_of(sites)) {
+        good &= pair_sound(ledger.pairs[16 * link.from + link.to]);
     }
     good
 }
@@ -50,14 +35,11 @@ fn links_sound(ledger: &Ledger, sites: u64) -> bool
 pub fn see(ledger: &Ledger, sites: u64, link: usize) -> Seen
     ensures { result ≡ seen_of sites link ledger.now }
 {
-    let counts = ledger.counts;
-    let pair = read_pair(ledger, link);
-    let sound = links_sound(ledger, sites);
     Seen {
-        counts,
+        counts: ledger.counts,
         link,
-        pair,
-        sound,
+        pair: read_pair(ledger, link),
+        sound: links_sound(ledger, sites),
     }
 }
 
@@ -67,9 +49,8 @@ pub fn book(ledger: &mut Ledger, counter: u64, link: usize, pair: Pair)
     ensures booked { ledger.new ≡ booked_ledger M counter link pair ledger.old }
     ensures whole { length ledger.old.pairs ≡ 256 }
 {
-    let before = ledger.counts;
-    let after = raised(before, counter);
-    ledger.counts = after;
+    ledger.counts = raised(ledger.counts, counter);
+    // A slice, whose length `whole` tells; and no `get_mut`, after which a proof knows no entry.
     let pairs: &mut [Pair] = &mut ledger.pairs;
     if link < pairs.len() {
         pairs[link] = pair;
@@ -80,16 +61,9 @@ pub fn book(ledger: &mut Ledger, counter: u64, link: usize, pair: Pair)
 pub fn start(ledger: &mut Ledger, wanted: bool, sites: u64, first: u32)
     ensures { ledger.new ≡ started_if wanted sites first ledger.old }
 {
-    let before = ledger.counts;
-    let after = emptied(before, wanted);
-    ledger.counts = after;
-    let n = sites_to_start(wanted, sites);
+    ledger.counts = emptied(ledger.counts, wanted);
     let pair = start_pair(first);
-    let mut link = first_link(n);
-    while link.from < n {
-        let at = 16 * link.from + link.to;
-        ledger.pairs[at] = pair;
-        let next = next_link(link, n);
-        link = next;
+    for link in links_of(sites_to_start(wanted, sites)) {
+        ledger.pairs[16 * link.from + link.to] = pair;
     }
 }

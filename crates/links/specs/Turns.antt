@@ -1,13 +1,16 @@
 -- The links of a run one after the other, as the loops go over them, and that a loop which goes so does what `over_rows` of `rules` says. The contracts of `first_link`, `next_to` and `next_link` cite the order, and no public contract does.
 --     at_first, done_next, at_end    what was done on the way to a link: nothing, one link more, all
+--     StandsIn, GivesLink            what the iterator `Links` knows of itself, and what one call of it gives
+--     Done, none_done, one_done, all_done    the same of a loop over the iterator
 --     stands_first, stands_next      a loop stands at the link of two different sites, or at the end.        further    each turn brings it nearer the end
 -- Assumes nothing.
-use Rattle.std.specs.Prelude.{◌≡◌, ℕ, zero, suc, ◌+◌, ◌-◌, ◌<◌, ◌≤◌, Bool, true, false, cond, ltb, ◌==◌, ◌≢◌, nat_lt}
+use Rattle.std.specs.Prelude.{◌≡◌, ℕ, zero, suc, ◌+◌, ◌-◌, ◌<◌, ◌≤◌, Bool, true, false, cond, ltb, ◌==◌, ◌≢◌, nat_lt, Option, None, Some, MatchOption}
 use Rattle.std.proofs.Common.{arith, add-one, sym, ap, subst, ◌∙◌}
 use Rattle.std.proofs.Math.Path.{refl}
 use borrow.Author.Tests.{lt-ltb, le-ltb, eq-eqb, ne_eqb, ltb-true, ltb-false, eqb-true, eqb-false}
 use Rattle.links.specs.declared.turns.Link.{Link}
-use Rattle.rules.specs.meaning.Links.{place, over_row, over_rows}
+use Rattle.links.specs.declared.turns.Links.{Links}
+use Rattle.rules.specs.meaning.Links.{place, linked, over_row, over_rows}
 
 unfoldable pub first_link : ℕ → Link
 first_link n = cond (nat_lt 1 n) (record { from = 0; to = 1 }) (record { from = n; to = 0 })
@@ -32,6 +35,18 @@ next_out n l t e over = rw (sym e, le-ltb t n over)
 pub data Stands (n : ℕ) (l : Link) : Type 0 where
   on : l.from < n → l.to < n → (l.from ≢ l.to) → Stands n l
   over : l.from ≡ n → l.to ≡ 0 → Stands n l
+
+-- ---- the links of a run as an iterator
+abbrev pub links_of : ℕ → Links
+links_of n = record { at = first_link n; sites = n }
+
+-- it stands so in a run of 16 sites at most
+abbrev pub StandsIn : Links → Type 0
+StandsIn s = (s.sites ≤ 16) × Stands s.sites s.at
+
+-- a call gives the link where it stood, and it stands at the next one; at the end it gives none, and stays
+abbrev pub GivesLink : Links → Option Link → Links → Type 0
+GivesLink s r t = MatchOption r ((s.sites ≤ s.at.from) × (t ≡ s)) (λ l. (s.at.from < s.sites) × (l ≡ s.at) × (t ≡ record { at = next_link s.sites s.at; sites = s.sites }))
 
 -- before the end the sites are different ones of the run
 pub on_of : (n : ℕ) (l : Link) → Stands n l → l.from < n → (l.to < n) × (l.from ≢ l.to)
@@ -141,3 +156,28 @@ done_next {S} f n l s la lb d = go (next_of n l la lb d)
     go : Next n l → so_far f n (next_link n l) s ≡ f l.from l.to (so_far f n l s)
     go (along t e at more within other) = ap (λ (m : Link). so_far f n m s) at ∙ ap (λ (k : ℕ). over_row f l.from k (over_rows f n l.from s)) e ∙ done
     go (down e at) = ap (λ (m : Link). so_far f n m s) at ∙ rows_on f n l.from s ∙ ap (λ (k : ℕ). over_row f l.from k (over_rows f n l.from s)) e ∙ done
+
+-- ---- a loop over the iterator: what it did is nothing at first, one link more after each call, and all at the end
+pub begins : (n : ℕ) (s : Links) → s ≡ links_of (linked n) → StandsIn s
+begins n s e = rw e (omega arith, stands_first (linked n))
+
+-- the entry of a link is among the 256
+pub in_range : (s : Links) → StandsIn s → s.at.from < s.sites → place s.at.from s.at.to < 256
+in_range s (few, stands) less = let lb : s.at.to < s.sites = (on_of s.sites s.at stands less).0 in omega (arith, few, less, lb)
+
+-- of n sites the links that s has given are done, which makes y of x
+pub record Done {S : Type 0} (f : ℕ → ℕ → S → S) (n : ℕ) (x y : S) (s : Links) : Type 0 where
+  pub sized : s.sites ≡ n
+  pub so : so_far f s.sites s.at x ≡ y
+
+module _ {S : Type 0} (f : ℕ → ℕ → S → S) (n : ℕ) (x : S) where
+  pub none_done : (s : Links) → s ≡ links_of (linked n) → n ≤ 16 → Done f n x x s
+  none_done s e few = let same : linked n ≡ n = omega arith in rw (e, same) (record { sized = refl; so = at_first f n x })
+
+  pub one_done : (y : S) (s t : Links) (l : Link) → Done f n x y s → StandsIn s → GivesLink s (Some l) t → Done f n x (f l.from l.to y) t
+  one_done y s t l d (few, stands) (less, at, to) =
+      let here = on_of s.sites s.at stands less in
+      rw (to, at, ← d.so) (record { sized = d.sized; so = done_next f s.sites s.at x less here.0 here.1 })
+
+  pub all_done : (y : S) (s t : Links) → Done f n x y s → StandsIn s → GivesLink s None t → y ≡ over_rows f n n x
+  all_done y s t d (few, stands) (end, same) = rw (← d.sized) (sym d.so ∙ at_end f s.sites s.at x stands end)

@@ -11,4 +11,4 @@ mod turns;
 pub use lags::lag_refusal;
 pub use pairs::{heard_pair, incomparable, lag_of, pair_sound, sent_pair, start_pair};
 pub use places::{link_between, sites_of, sites_to_start};
-pub use turns::{Link, first_link, next_link};
+pub use turns::{Link, Links, first_link, links_of, next_link};

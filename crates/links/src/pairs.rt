@@ -7,7 +7,8 @@ ghost use Rattle.rules.specs.meaning.Lags.{silent, last_sent, lag_undefined};
 use crate::serial::{is_newer, is_ordered, lag, next_serial, serial_before};
 use rules::Pair;
 
-// The newest heard is 0 while its mark stands.
+// The newest heard is 0 while its mark stands. The judge asks it of every link, so there is no early exit.
+#[tactic(auto, unfolding(rules::specs::meaning::Links::pair_sound))]
 pub fn pair_sound(pair: Pair) -> bool
     ensures { result ≡ pair_sound pair }
 {
@@ -30,33 +31,31 @@ pub fn start_pair(first: u32) -> Pair
 pub fn sent_pair(pair: Pair) -> Pair
     ensures { result ≡ sent_pair pair }
 {
-    let next = next_serial(pair.next);
     Pair {
-        next,
-        heard: pair.heard,
+        next: next_serial(pair.next),
         unsent: 0,
-        unheard: pair.unheard,
+        ..pair
     }
 }
 
 // Whether a serial that arrives becomes the newest heard. The first one does, whatever its number.
+#[tactic(auto, unfolding(rules::specs::meaning::Links::moves_on))]
 fn moves_on(serial: u32, pair: Pair) -> bool
     ensures { result ≡ moves_on serial pair }
 {
-    let newer = is_newer(serial, pair.heard);
-    (pair.unheard != 0) | newer
+    pair.unheard != 0 || is_newer(serial, pair.heard)
 }
 
 // After a delivery: a serial that is not newer leaves the entry as it is.
+#[tactic(auto, unfolding(rules::specs::meaning::Links::heard_pair))]
 pub fn heard_pair(serial: u32, pair: Pair) -> Pair
     ensures { result ≡ heard_pair serial pair }
 {
     if moves_on(serial, pair) {
         Pair {
-            next: pair.next,
             heard: serial,
-            unsent: pair.unsent,
             unheard: 0,
+            ..pair
         }
     } else {
         pair
@@ -64,33 +63,32 @@ pub fn heard_pair(serial: u32, pair: Pair) -> Pair
 }
 
 // Whether a serial that arrives has no order with the newest heard. Where nothing was heard there is nothing to compare it with.
+#[tactic(auto, unfolding(rules::specs::meaning::Links::incomparable))]
 pub fn incomparable(serial: u32, pair: Pair) -> bool
     ensures { result ≡ incomparable serial pair }
 {
-    let ordered = is_ordered(serial, pair.heard);
-    (pair.unheard == 0) & !ordered
+    pair.unheard == 0 && !is_ordered(serial, pair.heard)
 }
 
 // Whether a lag is asked of a link on which nothing was sent or nothing was heard.
+#[tactic(auto, unfolding(rules::specs::meaning::Lags::silent))]
 pub(crate) fn silent(pair: Pair) -> bool
     ensures { result ≡ silent pair }
 {
-    (pair.unsent != 0) | (pair.unheard != 0)
+    pair.unsent != 0 || pair.unheard != 0
 }
 
 // Whether the newest heard and the last sent have no order, so that there is no lag.
+#[tactic(auto, unfolding(rules::specs::meaning::Lags::lag_undefined))]
 pub(crate) fn lag_undefined(pair: Pair) -> bool
     ensures { result ≡ lag_undefined pair }
 {
-    let last = serial_before(pair.next);
-    let ordered = is_ordered(pair.heard, last);
-    !ordered
+    !is_ordered(pair.heard, serial_before(pair.next))
 }
 
 // The newest heard minus the last sent. It is a number for every entry; only whoever asks knows whether it means something.
 pub fn lag_of(pair: Pair) -> i32
     ensures { result ≡ lag_of pair.heard (last_sent pair) }
 {
-    let last = serial_before(pair.next);
-    lag(pair.heard, last)
+    lag(pair.heard, serial_before(pair.next))
 }

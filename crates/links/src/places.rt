@@ -8,7 +8,7 @@ use rules::NO_LINK;
 pub fn sites_of(sites: u64) -> usize
     ensures { result ≡ linked sites }
 {
-    if sites < 16 { sites as usize } else { 16 }
+    sites.min(16) as usize
 }
 
 // How many sites are started: none where that is not wanted.
@@ -20,16 +20,14 @@ pub fn sites_to_start(wanted: bool, sites: u64) -> usize
 
 // The place of the entry of one site to another. Where they are no link of the run it is past the last entry, so that whoever reads or stores
 // there need not ask.
+#[tactic(auto, unfolding(rules::specs::meaning::Links::link_between))]
 pub fn link_between(sites: u64, from: u64, to: u64) -> usize
     ensures { result ≡ link_between sites from to }
 {
     let n = sites_of(sites) as u64;
-    if from < n {
-        if to < n {
-            if from != to {
-                return 16 * from as usize + to as usize;
-            }
-        }
+    if from < n && to < n && from != to {
+        16 * from as usize + to as usize
+    } else {
+        NO_LINK
     }
-    NO_LINK
 }

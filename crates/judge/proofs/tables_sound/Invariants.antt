@@ -1,15 +1,8 @@
 -- `judge::tables_sound`: the tables so far and the tables that are left are all of them.
-use Rattle.std.proofs.Common.{◌≡◌, ◌*◌, ◌-◌, ◌≤◌, ◌&&◌, drop}
+use Rattle.std.proofs.Common.{◌≡◌, ◌*◌, ◌-◌, ◌&&◌, drop}
 use Rattle.rules.specs.meaning.Lengths.{M}
 use Rattle.rules.specs.meaning.States.{tables_sound}
 use Rattle.judge.proofs.tables_sound.Given as goal
 
 abbrev pub invariant-loop-k : goal.invariant-loop-k
-invariant-loop-k l = record {
-  within : l.k ≤ l.sites;
-  come_to : l.from ≡ l.k * l.width;
-  so_far : l.good && tables_sound M l.width (l.sites - l.k) (drop (l.k * l.width) l.words) ≡ tables_sound M l.width l.sites l.words;
-}
-
-abbrev pub decreases-loop-k : goal.decreases-loop-k
-decreases-loop-k l = l.sites - l.k
+invariant-loop-k l = l.good && tables_sound M l.width (l.sites - l.k) (drop (l.k * l.width) l.words) ≡ tables_sound M l.width l.sites l.words

@@ -1,15 +1,11 @@
--- The loop stands at a link of the run or at the end, and the entries are those in which the links before it have begun. The counts stay as they are. It nears the end by the place of its link.
-use Rattle.std.proofs.Common.{◌≡◌, ◌-◌}
-use Rattle.rules.specs.meaning.Links.{place, begun}
-use Rattle.links.specs.Turns.{Stands, so_far}
+-- The entries are those in which the links that the iterator has given have begun. The counts stay as they are.
+use Rattle.std.proofs.Common.{◌≡◌, cond}
+use Rattle.rules.specs.meaning.Links.{linked, begun}
+use Rattle.links.specs.Turns.{Done}
 use Rattle.ledger.proofs.start.Given as goal
 
 abbrev pub invariant-loop-link : goal.invariant-loop-link
 invariant-loop-link l = record {
-  stands : Stands l.n l.link;
-  done : so_far (begun l.first) l.n l.link l.initial.ledger.pairs ≡ l.ledger.pairs;
+  entries : Done (begun l.first) (linked (cond l.wanted l.sites 0)) l.initial.ledger.pairs l.ledger.pairs l.link-iterator;
   counts : l.ledger.counts ≡ l.initial.ledger.counts;
 }
-
-abbrev pub decreases-loop-link : goal.decreases-loop-link
-decreases-loop-link l = 256 - place l.link.from l.link.to
