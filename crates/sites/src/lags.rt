@@ -17,6 +17,7 @@ fn no_lag(refusal: u32) -> Lag
 }
 
 // 1 or 2, then what the query itself is refused for, else the lag.
+#[tactic(auto, using(crate::proofs::Lagging::judged_out, crate::proofs::Lagging::own_out, crate::proofs::Lagging::lag_told))]
 pub(crate) fn lag_seen(
     words: &[u64],
     run: Run,

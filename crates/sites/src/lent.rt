@@ -79,6 +79,7 @@ pub fn fresh(
 }
 
 // How far the newest serial heard on a link is from the last one sent there. What is lent is only read.
+#[tactic(auto, using(crate::proofs::Outcomes::lagged))]
 pub fn lag(words: &[u64], slots: &[Parcel], ledger: &Ledger, run: Run, from: u64, to: u64) -> Lag
     ensures { result ≡ lag_answer run (lent words.now slots.now ledger.now) from to }
 {
