@@ -89,7 +89,7 @@ pub(crate) fn put(words: &mut [u64], at: usize, id: u64, length: u64)
     words[at + 1] = length;
 }
 
-// One turn, with the last entry that is left of the source.
+// One turn, with the last entry that is left of the source. Its clause is for any two tables: no argument says which, and `one` lends a part of its words.
 pub(crate) fn turn(table: &mut [u64], left: Left, id: u64, length: u64) -> Left
     requires { (1 ≤ left.others) × (1 ≤ left.place) × (left.own ≤ left.place) × (2 * left.place ≤ size table.old) }
     ensures by_index { (t s : List ℕ) → Joining t s (λ q. get_or table.old q 0) left.own left.others left.place → id ≡ id_at s (left.others - 1) → length ≡ length_at s (left.others - 1) → Joining t s (λ q. get_or table.new q 0) result.own result.others result.place }

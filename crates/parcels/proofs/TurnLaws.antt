@@ -1,23 +1,16 @@
 -- What the turns come to: all of them make the scan that `rules` defines; and what a fill of the first slots comes to.
---     look_by_law      `look_of`, once its tests are known
 --     after        what a scan is that starts at s, with the slots ps from the number `at` on: one `look_of` after another
 --     start        what is known before any slot is seen.        scanned      from there, the turns make `scan_of`
---     one_turn     the slots from i on are the slot i and those from i + 1 on.        all_seen     none is left
---     fewer        a turn counts at most one
 --     clear_front    free slots in place of the first ones, or of all where there are fewer
-use Rattle.std.specs.Prelude.{◌≡◌, refl, ℕ, zero, suc, ◌+◌, ◌<◌, ◌≤◌, min, Bool, true, false, ◌&&◌, ◌||◌, cond, ltb, length, drop, get_or, replicate, ◌++◌}
+use Rattle.std.specs.Prelude.{◌≡◌, refl, ℕ, zero, suc, ◌+◌, ◌<◌, min, Bool, true, false, ◌&&◌, ◌||◌, cond, ltb, length, drop, replicate, ◌++◌}
 use Rattle.std.proofs.Math.Path.{sym}
-use Rattle.std.proofs.Common.{ap, ◌∙◌, subst, arith, add-zero, zero-add, add-one, drop-cons, lt-ltb, le-ltb}
+use Rattle.std.proofs.Common.{ap, ◌∙◌, arith, add-zero, zero-add, lt-ltb, le-ltb}
 use Rattle.std.proofs.lemmas.Bool.{false≢true}
 use mathlib.Core.List.{List, [], ◌∷◌}
-use Rattle.std.proofs.Math.Seq.{drop-length}
 use Rattle.rules.specs.declared.Parcel.{Parcel}
 use Rattle.rules.specs.declared.Scan.{Scan}
 use Rattle.rules.specs.meaning.Parcels.{no_parcel, is_free, is_occupied, slots_sound, waiting, lowest_free, scan_of, cleared}
 use Rattle.parcels.specs.Turns.{look_by, look_of}
-
-pub look_by_law : (most sites at : ℕ) (p : Parcel) (s : Scan) (f h l : Bool) → is_free p ≡ f → is_occupied most sites p ≡ h → ltb at s.free ≡ l → look_of most sites at p s ≡ look_by f h l at s
-look_by_law most sites at p s f h l e g k = λ i. look_by (e i) (g i) (k i) at s
 
 abbrev pub start : ℕ → Scan
 start n = record { sound = true; waiting = 0; free = n }
@@ -88,19 +81,6 @@ module _ (most sites : ℕ) where
   scanned ps =
       none ps 0 (start (length ps)) (sym (zero-add (length ps)))
       ∙ (λ i. record { sound = slots_sound most sites ps; waiting = zero-add (waiting ps) i; free = zero-add (lowest_free ps) i })
-
-  by_one : (f h l : Bool) (at : ℕ) (s : Scan) → (look_by f h l at s).waiting ≤ s.waiting + 1
-  by_one true h l at s = omega arith
-  by_one false h l at s = omega arith
-
-  pub fewer : (at : ℕ) (p : Parcel) (s : Scan) → (look_of most sites at p s).waiting ≤ s.waiting + 1
-  fewer at p s = by_one (is_free p) (is_occupied most sites p) (ltb at s.free) at s
-
-  pub one_turn : (ys : List Parcel) (i : ℕ) (s : Scan) → i < length ys → after (drop i ys) i s ≡ after (drop (i + 1) ys) (i + 1) (look_of most sites i (get_or ys i no_parcel) s)
-  one_turn ys i s l = rw (add-one i, drop-cons ys i no_parcel)
-
-  pub all_seen : (ys : List Parcel) (i : ℕ) (s : Scan) → i ≡ length ys → after (drop i ys) i s ≡ s
-  all_seen ys i s e = subst (λ (k : ℕ). after (drop k ys) k s ≡ s) (sym e) (rw (drop-length))
 
 -- ---- free slots in place of the first ones, or of all where there are fewer
 pub clear_front : (ys : List Parcel) (n e : ℕ) → e ≡ min n (length ys) → replicate e no_parcel ++ drop e ys ≡ cleared n ys

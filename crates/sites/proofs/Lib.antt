@@ -1,3 +1,2 @@
 pub mod Lagging
 pub mod Outcomes
-pub mod Beginning
