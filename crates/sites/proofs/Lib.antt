@@ -1,2 +1,3 @@
 pub mod Lagging
 pub mod Outcomes
+pub mod Beginning

@@ -9,7 +9,6 @@ use links::{lag_of, lag_refusal};
 use rules::{Refusal, Run, Scan, Seen};
 
 // 1 or 2, then what the query itself is refused for, else the lag.
-#[tactic(auto, using(crate::proofs::Lagging::judged_out, crate::proofs::Lagging::own_out, crate::proofs::Lagging::lag_told))]
 pub(crate) fn lag_seen(
     words: &[u64],
     run: Run,

@@ -1,7 +1,8 @@
 -- By the rule on one length where the id stands, and nothing where it does not.
-use Rattle.std.proofs.Common.{ap, ◌∙◌}
+use Rattle.std.proofs.Common.{Ok, Err, refl, ap, ◌∙◌, arith}
 use Rattle.rules.specs.meaning.Lengths.{M}
-use Rattle.rules.specs.meaning.Operations.{removed_length}
+use Rattle.rules.specs.meaning.Operations.{removed_length, as_answer}
+use Rattle.rules.proofs.laws.Determined.{numbered}
 use Rattle.table.proofs.Raising.{remove_here, remove_kept, remove_absent}
 use Rattle.table.proofs.raise.remove.Goals as goal
 
@@ -10,11 +11,14 @@ returns-in_default c =
     let r = remove_absent _ _ c.requires c.in_default.ensures in
     record { value = r.0; table_after = r.1 }
 
-pub returns-then-after-eq0-clause-table_after : goal.returns-then-after-eq0-clause-table_after
-returns-then-after-eq0-clause-table_after c =
+pub returns : goal.returns
+returns c =
     let at = c.in-Some.ensures in
-    remove_here _ _ _ c.requires at _ (c.after_remove-after.ensures ∙ ap (removed_length M) at.its) c.if-after-eq0.true
+    let told = c.in_ok-unlisted.ensures ∙ ap (removed_length M) at.its in
+    record { value = told; table_after = remove_here _ _ _ c.requires at (as_answer (Ok c.in_ok-unlisted.unlisted)) told refl }
 
-pub returns-else-after-eq0-clause-table_after : goal.returns-else-after-eq0-clause-table_after
-returns-else-after-eq0-clause-table_after c =
-    remove_kept _ _ _ (c.after_remove-after.ensures ∙ ap (removed_length M) c.in-Some.ensures.its) c.if-after-eq0.false
+pub returns-in_err-unlisted-clause-table_after : goal.returns-in_err-unlisted-clause-table_after
+returns-in_err-unlisted-clause-table_after c =
+    let refused = Err c.in_err-unlisted.field-0.0 in
+    let above = numbered c.in_err-unlisted.field-0.0 in
+    remove_kept _ _ (as_answer refused) (c.in_err-unlisted.ensures ∙ ap (removed_length M) c.in-Some.ensures.its) (λ z. omega (arith, z))
