@@ -1,11 +1,12 @@
 // The function that is lent all three things. It decides nothing: what is lent to be read is seen by value, and another function is lent the words.
 ghost use Rattle.rules.specs.meaning.States.{lent};
+ghost use Rattle.rules.specs.meaning.Operations.{as_answer};
 ghost use Rattle.rules.specs.meaning.Events.{absorbs, Happened};
 
 use crate::seen::absorb_seen;
 use ledger::see;
 use parcels::scan_slots;
-use rules::{Answer, Ledger, NO_LINK, Parcel, Run};
+use rules::{Ledger, NO_LINK, Parcel, Refusal, Run};
 
 // "Absorbing a group's bytes at a site": the state is judged, and the group's entries are joined into the site's table, all or none. No update is
 // counted and no serial is heard, so the ledger is only read.
@@ -16,12 +17,10 @@ pub fn absorb(
     run: Run,
     site: u64,
     bytes: &[u8],
-) -> Answer
-    ensures { Happened run (lent words.old slots.now ledger.now) (absorbs site bytes.now) result (lent words.new slots.now ledger.now) }
+) -> Result<u64, Refusal>
+    ensures { Happened run (lent words.old slots.now ledger.now) (absorbs site bytes.now) (as_answer result) (lent words.new slots.now ledger.now) }
 {
-    let n = slots.len();
-    let sites = run.sites;
-    let scan = scan_slots(slots, sites);
-    let books = see(ledger, sites, NO_LINK);
-    absorb_seen(words, run, scan, n, books, site, bytes)
+    let scan = scan_slots(slots, run.sites);
+    let books = see(ledger, run.sites, NO_LINK);
+    absorb_seen(words, run, scan, slots.len(), books, site, bytes)
 }
