@@ -13,7 +13,8 @@ pub(crate) fn read_text(line: &[u8], place: usize, text: &[u8]) -> Option<usize>
         .then_some(place + text.len())
 }
 
-// Writes a piece of text at a place, and answers the place behind it. A loop, as `copy_from_slice` calls memcpy, which was slower at the few bytes of a name.
+// Writes a piece of text at a place, and answers the place behind it. A loop: `copy_from_slice` calls memcpy, which was slower at the few bytes
+// of a name.
 pub fn write_text(out: &mut [u8], place: usize, text: &[u8]) -> usize
     requires { place + length text.now ≤ length out.old }
     ensures { (result ≡ place + length text.now) × (out.new ≡ put out.old place text.now) }
