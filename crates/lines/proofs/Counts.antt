@@ -2,7 +2,7 @@
 use mathlib.Core.Path.{◌≡◌, ap}
 use Prim.Native.Nat.{ℕ, ◌+◌, ◌/◌, ◌^◌, ◌≤◌, ◌<◌}
 use native.Mathlib.Omega.{arith}
-use lib.ListN.{length}
+use lib.ListN.{length, length-set}
 use Rattle.rules.specs.meaning.Number.{digits}
 use Rattle.rules.proofs.laws.line.Numbers.{digits_length, one_digit, more_digits}
 
@@ -30,3 +30,5 @@ four_more n l h =
 
 -- how many digits are left where the loop ends, and at most
 pub ruleset counted = (digits_length, one_digit, two_digits, three_digits, four_digits, four_more)
+
+pub ruleset spelled = (one_digit, two_digits, two_more, length-set)

@@ -37,9 +37,6 @@ field_length false name n = refl
 pub field_yes : (used : Bool) (name : List ℕ) (n : ℕ) → used ≡ true → length (field used name n) ≡ length name + length (digits n)
 field_yes used name n u = field_length used name n ∙ rw u
 
-pub field_no : (used : Bool) (name : List ℕ) (n : ℕ) → used ≡ false → length (field used name n) ≡ 0
-field_no used name n u = field_length used name n ∙ rw u
-
 -- a name was put, then digits
 pub put_field : (used : Bool) (name : List ℕ) (n : ℕ) (out out' out'' : List ℕ) (place i : ℕ) → used ≡ true → place + length name ≤ length out → out' ≡ put out place name → i ≡ place + length name → out'' ≡ put out' i (digits n) → out'' ≡ put out place (field used name n)
 unfolding field
@@ -49,10 +46,7 @@ pub put_none : (used : Bool) (name : List ℕ) (n : ℕ) (out : List ℕ) (place
 unfolding field
 put_none used name n out place u = rw u (sym (put_nil out place))
 
-pub len_field : (u used : Bool) (name : List ℕ) (n r : ℕ) → length name ≡ 4 → u ≡ used → r ≡ cond u (4 + length (digits n)) 0 → r ≡ length (field used name n)
-len_field u used name n r l e h = rw (field_length used name n, l, ← e) h
-
--- the same, of the length
+-- the same, of the length of what is put
 pub used_length : {u used : Bool} (name : List ℕ) (n : ℕ) → u ≡ used → length (field u name n) ≡ length (field used name n)
 used_length name n e = rw e
 

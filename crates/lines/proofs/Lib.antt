@@ -5,6 +5,5 @@ pub mod Fields
 pub mod Leads
 pub mod Readings
 pub mod Spelling
-pub mod Steps
 pub mod Writings
 pub mod Areas

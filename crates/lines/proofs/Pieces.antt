@@ -1,55 +1,38 @@
--- A piece of fixed text, matched byte by byte: one law for a turn of the loop, one for each way out.
+-- A piece of fixed text: whether it stands at a place of a line, and the place behind it.
 use mathlib.Core.Path.{◌≡◌, sym, ap, ◌∙◌}
-use mathlib.Core.List.{List}
-use Prim.Native.Nat.{ℕ, ◌+◌, ◌-◌, ◌≤◌, ◌<◌}
+use mathlib.Core.Bool.{Bool, true, false}
+use mathlib.Core.List.{List, ◌++◌}
+use Prim.Native.Nat.{ℕ, ◌+◌, ◌-◌, ◌≤◌}
 use native.Mathlib.Omega.{arith}
-use native.Mathlib.Numerals.{add-one}
-use borrow.Author.Tests.{eq-eqb, ne_eqb}
-use lib.ListN.{length, get_or, drop, length-append, length-drop, drop_of_length-le}
-use lib.Seq.{drop-cons}
-use Rattle.std.specs.Prelude.{Some, None}
+use lib.Dec.{eqb}
+use lib.ListN.{length, take, drop, length-append, length-drop}
+use Rattle.std.specs.Prelude.{option_map}
+use Rattle.std.specs.Bool.{then_some}
+use Rattle.std.specs.Cmp.Lexicographic.{pointwise}
+use Rattle.std.proofs.lemmas.Bool.Decides.{Decides-eqb}
+use Rattle.std.proofs.lemmas.Slice.{between_to_end}
+use Rattle.std.proofs.lemmas.Slice.Eq.{starts_is}
 use Rattle.rules.specs.meaning.Text.{front, refused, behind}
-use Rattle.rules.proofs.laws.line.Lines.{behind_text, front_cases}
+use Rattle.rules.proofs.laws.line.Numbers.{by_test}
+use Rattle.rules.proofs.laws.line.Lines.{behind_is, behind_text, front_cases}
 use Rattle.rules.specs.meaning.Places.{text_at}
-use Rattle.rules.proofs.laws.line.Places.{to_place, to_none}
 
-behind_turn : (line text : List ℕ) (i j : ℕ) → i < length line → j < length text → get_or line i 0 ≡ get_or text j 0 → behind (drop j text) (drop i line) ≡ behind (drop (j + 1) text) (drop (i + 1) line)
-unfolding behind
-behind_turn line text i j p q e = rw (drop-cons line i 0 p, drop-cons text j 0 q, add-one i, add-one j, eq-eqb (get_or text j 0) (get_or line i 0) (sym e))
+-- the part of the line from the place on, as the code has it
+module _ (line : List ℕ) (place : ℕ) (text : List ℕ) (t : Bool) (within : place ≤ length line) (e : t ≡ pointwise eqb text (take (length text) (take (length line - place) (drop place line)))) where
+  says : (t ≡ true → drop place line ≡ text ++ drop (length text) (drop place line)) × ((rest : List ℕ) → drop place line ≡ text ++ rest → t ≡ true)
+  says = let p : take (length line - place) (drop place line) ≡ drop place line = between_to_end line place (length line) (omega arith) in
+      starts_is Decides-eqb (drop place line) text t (rw p at e)
 
--- a text has no longer piece in front of it
-behind_short : (text xs : List ℕ) → length xs < length text → behind text xs ≡ refused
-behind_short text xs h =
-    front_cases (behind text xs) (λ n. n)
-    (λ v rest e. absurd (omega (arith, ap length (behind_text text xs v rest e), length-append text rest)))
-
-behind_other : (line text : List ℕ) (i j : ℕ) → i < length line → j < length text → (get_or line i 0 ≡ get_or text j 0 → ⊥) → behind (drop j text) (drop i line) ≡ refused
-unfolding behind
-behind_other line text i j p q e = rw (drop-cons line i 0 p, drop-cons text j 0 q, ne_eqb (get_or text j 0) (get_or line i 0) (λ k. e (sym k)))
-
-behind_end : (line text : List ℕ) (i j : ℕ) → length text ≤ j → behind (drop j text) (drop i line) ≡ front 0 (drop i line)
-unfolding behind
-behind_end line text i j p = rw (drop_of_length-le text p)
-
-pub text_short : (line : List ℕ) (place : ℕ) (text : List ℕ) → length line - place < length text → None ≡ text_at line place text
-unfolding text_at
-text_short line place text h = sym (to_none (length line) (behind text (drop place line)) (behind_short text (drop place line) (omega (arith, length-drop place line))))
-
-module _ (line : List ℕ) (place : ℕ) (text : List ℕ) where
-  -- what the loop keeps: the text stands at the first place if and only if its rest stands at this one
-  abbrev pub Kept : ℕ → Type 0
-  Kept j = behind (drop j text) (drop (place + j) line) ≡ behind text (drop place line)
-
-  module _ (j : ℕ) (kept : Kept j) where
-    pub text_more : place + j < length line → j < length text → get_or line (place + j) 0 ≡ get_or text j 0 → Kept (j + 1)
-    text_more p q e = let k : place + (j + 1) ≡ place + j + 1 = omega arith in rw k (sym (behind_turn line text (place + j) j p q e) ∙ kept)
-
-    pub text_other : place + j < length line → j < length text → (get_or line (place + j) 0 ≡ get_or text j 0 → ⊥) → None ≡ text_at line place text
-    unfolding text_at
-    text_other p q e = sym (to_none (length line) (behind text (drop place line)) (sym kept ∙ behind_other line text (place + j) j p q e))
-
-    pub text_end : j ≡ length text → place + j ≤ length line → Some (0, (place + length text)) ≡ text_at line place text
-    unfolding text_at
-    text_end e q =
-        ap (λ (k : ℕ). Some (0, (place + k))) (sym e)
-        ∙ sym (to_place line (behind text (drop place line)) 0 (place + j) (sym kept ∙ behind_end line text (place + j) j (omega arith)) q)
+  pub text_tested : option_map (λ (next : ℕ). (0, next)) (then_some t (place + length text)) ≡ text_at line place text
+  unfolding text_at
+  text_tested =
+      by_test t
+      (λ y.
+      let w = says.0 y in
+      let n : length line - length (drop (length text) (drop place line)) ≡ place + length text = omega (arith, length-drop (length text) (drop place line), length-drop place line, ap length w, length-append text (drop (length text) (drop place line))) in
+      let b : behind text (drop place line) ≡ front 0 (drop (length text) (drop place line)) = ap (behind text) w ∙ behind_is text (drop (length text) (drop place line)) in
+      rw (y, b, n))
+      (λ n.
+      let b : behind text (drop place line) ≡ refused =
+      front_cases (behind text (drop place line)) (λ r. r) (λ v rest f. absurd (let z : true ≡ false = sym (says.1 rest (behind_text text (drop place line) v rest f)) ∙ n in cc)) in
+      rw (n, b))

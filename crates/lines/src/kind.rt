@@ -1,4 +1,4 @@
-// The eight kinds of step lines: how a line of each begins, and which numbers it has.
+// The eight kinds of step lines: how a line of each begins, and which numbers it has. A kind is a number, as C gives it.
 ghost use Rattle.std.specs.Prelude.{◌≡◌, ℕ, ◌≤◌, length, get_or};
 ghost use Rattle.rules.specs.meaning.Lines.{lead, has_second, has_id};
 ghost use Rattle.rules.specs.meaning.Places.{kind_at};

@@ -1,5 +1,5 @@
 // Step lines, read from and written to byte slices. What a line is, and what each function means, is said in `specs/` of the crate `rules`.
-// Reading is one pass: no byte of a line is looked at more than twice.
+// Reading is one pass: only the two bytes that tell a line's kind are looked at before.
 #![tactic(auto)]
 
 mod area;

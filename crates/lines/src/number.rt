@@ -8,7 +8,7 @@ ghost use Rattle.rules.specs.meaning.Put.{put};
 const MOST_DIGITS: usize = 20;
 
 // The number that stands at a place of a line, and the place behind it: up to 20 digits, zeros in front among them. A value that leaves 64 bits is refused
-// at the digit that does it.
+// at the digit that does it. The digits are counted as they are read, so that they are passed over once.
 pub(crate) fn read_number(line: &[u8], place: usize) -> Option<(u64, usize)>
     requires { place ≤ length line.now }
     ensures { result ≡ number_at line.now place }
@@ -51,6 +51,7 @@ pub fn places(n: u64) -> usize
 }
 
 // Writes a number at a place, from its last digit to its first and two digits with each division, and answers the place behind it.
+#[tactic(auto, using(crate::proofs::Counts::spelled))]
 pub fn write_number(out: &mut [u8], place: usize, n: u64) -> usize
     requires { place + length (digits n) ≤ length out.old }
     ensures { (result ≡ place + length (digits n)) × (out.new ≡ put out.old place (digits n)) }

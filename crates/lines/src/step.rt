@@ -5,7 +5,7 @@ ghost use Rattle.rules.specs.meaning.StepLines.{steps, step_for, step_of};
 
 use crate::kind::{has_id, has_second};
 use crate::read::read_line;
-use rules::{Numbers, Step};
+use rules::Step;
 
 // Whether four numbers name a step: "unused ones 0". Any first number does: "Sizes of sites and slots are not judged here."
 #[tactic(auto, unfolding(rules::specs::meaning::Lines::names_step))]
@@ -56,11 +56,6 @@ pub fn step_for(kind: u64, first: u64, second: u64, id: u64) -> Option<Step>
 pub fn read_step(line: &[u8]) -> Option<Step>
     ensures { result ≡ step_of line.now }
 {
-    let Numbers {
-        kind,
-        first,
-        second,
-        id,
-    } = read_line(line)?;
-    step_for(kind, first, second, id)
+    let n = read_line(line)?;
+    step_for(n.kind, n.first, n.second, n.id)
 }

@@ -16,21 +16,6 @@ loop-rest-init c = let s = c.args in
     let k : s.place + c.places.result ≡ s.place + length (digits s.n) = omega arith in
     (ap (λ (j : ℕ). digits s.n ++ drop j s.out.now) k, refl, k, refl, omega arith, omega arith)
 
-pub overflow_sub-out : goal.overflow_sub-out
-overflow_sub-out c = let l = c.loop-rest in omega (arith, two_more l.rest c.loop-rest-test.true l.invariant.4)
-
-pub bounds-out-i : goal.bounds-out-i
-bounds-out-i c = let l = c.loop-rest in omega (arith, two_more l.rest c.loop-rest-test.true l.invariant.4)
-
-pub overflow_sub-out-in-loop-rest : goal.overflow_sub-out-in-loop-rest
-overflow_sub-out-in-loop-rest c = let l = c.loop-rest in omega (arith, two_more l.rest c.loop-rest-test.true l.invariant.4)
-
-pub bounds-out-i-in-loop-rest : goal.bounds-out-i-in-loop-rest
-bounds-out-i-in-loop-rest c = let l = c.loop-rest in omega (arith, length-set l.out (l.i - 1) (48 + l.rest % 10), two_more l.rest c.loop-rest-test.true l.invariant.4)
-
-pub overflow_sub-i : goal.overflow_sub-i
-overflow_sub-i c = let l = c.loop-rest in omega (arith, two_more l.rest c.loop-rest-test.true l.invariant.4)
-
 pub loop-rest-preserved : goal.loop-rest-preserved
 loop-rest-preserved c = let l = c.loop-rest in
     let s = c.args in
@@ -43,15 +28,6 @@ loop-rest-preserved c = let l = c.loop-rest in
       omega arith,
     )
 
-pub overflow_sub-out-then-rest-lt10 : goal.overflow_sub-out-then-rest-lt10
-overflow_sub-out-then-rest-lt10 c = let l = c.loop-rest in omega (arith, one_digit l.rest c.if-rest-lt10.true)
-
-pub bounds-out-i-then-rest-lt10 : goal.bounds-out-i-then-rest-lt10
-bounds-out-i-then-rest-lt10 c = let l = c.loop-rest in omega (arith, one_digit l.rest c.if-rest-lt10.true)
-
-pub shape_of-out-then-rest-lt10 : goal.shape_of-out-then-rest-lt10
-shape_of-out-then-rest-lt10 c = simp length-set c.loop-rest.invariant.3
-
 pub returns-then-rest-lt10 : goal.returns-then-rest-lt10
 returns-then-rest-lt10 c = let l = c.loop-rest in
     let s = c.args in
@@ -63,21 +39,6 @@ returns-then-rest-lt10 c = let l = c.loop-rest in
           (ap (λ (k : ℕ). take k out) (sym z) ∙ front_kept l.out s.out.now l.i (48 + l.rest) l.invariant.1 ∙ ap (λ (k : ℕ). take k s.out.now) z)
           (ap (λ (k : ℕ). drop k out) (sym z) ∙ spell_last l.out l.rest l.i c.if-rest-lt10.true (omega arith) (omega arith) ∙ l.invariant.0),
     )
-
-pub overflow_sub-out-2 : goal.overflow_sub-out-2
-overflow_sub-out-2 c = let l = c.loop-rest in omega (arith, two_digits l.rest c.if-rest-lt10.false c.loop-rest-test.false)
-
-pub bounds-out-i-2 : goal.bounds-out-i-2
-bounds-out-i-2 c = let l = c.loop-rest in omega (arith, two_digits l.rest c.if-rest-lt10.false c.loop-rest-test.false)
-
-pub overflow_sub-out-3 : goal.overflow_sub-out-3
-overflow_sub-out-3 c = let l = c.loop-rest in omega (arith, two_digits l.rest c.if-rest-lt10.false c.loop-rest-test.false)
-
-pub bounds-out-i-3 : goal.bounds-out-i-3
-bounds-out-i-3 c = let l = c.loop-rest in omega (arith, length-set l.out (l.i - 1) (48 + l.rest % 10), two_digits l.rest c.if-rest-lt10.false c.loop-rest-test.false)
-
-pub shape_of-out : goal.shape_of-out
-shape_of-out c = simp length-set c.loop-rest.invariant.3
 
 pub returns : goal.returns
 returns c = let l = c.loop-rest in
