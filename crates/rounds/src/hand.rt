@@ -26,8 +26,7 @@ fn hand_out(words: &mut [u64], run: Run, all: &[u64])
     ensures { words.new ≡ copies run.sites all.now }
 {
     for site in 0..run.sites {
-        let part = part_of(run, site);
-        copy(&mut words[part.from..part.to], all);
+        copy(&mut words[part_of(run, site)], all);
     }
 }
 

@@ -15,8 +15,7 @@ pub(crate) fn table_at(words: &[u64], run: Run, site: u64) -> &[u64]
     ensures value { result.now ≡ table_at run words.now site }
     ensures wide { length result.now ≡ width run }
 {
-    let part = part_of(run, site);
-    &words[part.from..part.to]
+    &words[part_of(run, site)]
 }
 
 // Its entries in use.

@@ -9,5 +9,5 @@ pub loop-site-preserved : goal.loop-site-preserved
 loop-site-preserved c =
     let a = c.args in
     let l = c.loop-site in
-    let p = c.part_of-part in
+    let p = c.part_of in
     hand_more a.run a.words.now a.all.now c.requires.sized c.requires.all_len l.site _ _ l.words _ l.invariant c.loop-site-test.true p.ensures.0 p.ensures.1 c.copy.ensures

@@ -1,35 +1,45 @@
 -- `rounds::seen::repair_seen`: the judge, and the room.
-use Rattle.std.proofs.Common.{◌∙◌}
+use Rattle.std.proofs.Common.{refl, arith}
+use Rattle.std.proofs.lemmas.Result.{err_from_is_err_and}
 use Rattle.rules.specs.meaning.Parcels.{no_parcel}
+use Rattle.rules.specs.meaning.Refusals.{number_of}
+use Rattle.rules.proofs.laws.Determined.{numbered}
 use Rattle.judge.specs.Judged.{seen_as}
 use Rattle.rounds.proofs.Repairing.{judged_out, repairable, full_out, taken}
 use Rattle.rounds.proofs.seen.repair_seen.Goals as goal
 
-pub returns-then-judged-ne0 : goal.returns-then-judged-ne0
-returns-then-judged-ne0 c =
+pub returns-in_err-judge_seen : goal.returns-in_err-judge_seen
+returns-in_err-judge_seen c =
     let a = c.args in
-    let said = judged_out a.run a.words.now (seen_as a.scan no_parcel a.slots a.books) c.judge_seen-judged.result c.judge_seen-judged.ensures c.if-judged-ne0.true in
-    (c.refuse.ensures ∙ said.0, said.1)
+    let p = err_from_is_err_and c.from_residual.result c.from_residual.ensures.1 in
+    let n = c.in_err-judge_seen.field-0.0 in
+    let above = numbered n in
+    let said = judged_out a.run a.words.now (seen_as a.scan no_parcel a.slots a.books) (number_of n) c.in_err-judge_seen.ensures (λ z. omega (arith, z)) in
+    (rw (p.1, p.2) said.0, said.1)
 
 pub even_out-requires : goal.even_out-requires
 even_out-requires c =
     let a = c.args in
-    repairable a.run a.words.now (seen_as a.scan no_parcel a.slots a.books) c.judge_seen-judged.ensures c.if-judged-ne0.false
+    repairable a.run a.words.now (seen_as a.scan no_parcel a.slots a.books) c.in_ok-judge_seen.ensures refl
 
-pub accept-requires : goal.accept-requires
-accept-requires c =
+pub overflow_sub-result : goal.overflow_sub-result
+overflow_sub-result c =
     let a = c.args in
-    let ok = repairable a.run a.words.now (seen_as a.scan no_parcel a.slots a.books) c.judge_seen-judged.ensures c.if-judged-ne0.false in
-    (ok.some, ok.ready.sized.few)
+    let ok = repairable a.run a.words.now (seen_as a.scan no_parcel a.slots a.books) c.in_ok-judge_seen.ensures refl in
+    ok.some
 
-pub returns-then-even_out : goal.returns-then-even_out
-returns-then-even_out c =
+pub overflow_mul-result : goal.overflow_mul-result
+overflow_mul-result c =
     let a = c.args in
-    let said = taken a.run a.words.now (seen_as a.scan no_parcel a.slots a.books) c.judge_seen-judged.ensures c.if-judged-ne0.false c.even_out.ensures c.if-even_out.true in
-    (c.accept.ensures ∙ said.0, said.1)
+    let ok = repairable a.run a.words.now (seen_as a.scan no_parcel a.slots a.books) c.in_ok-judge_seen.ensures refl in
+    omega (arith, ok.ready.sized.few)
 
-pub returns-else-even_out : goal.returns-else-even_out
-returns-else-even_out c =
+pub returns-then-not-even_out : goal.returns-then-not-even_out
+returns-then-not-even_out c =
     let a = c.args in
-    let said = full_out a.run a.words.now (seen_as a.scan no_parcel a.slots a.books) c.judge_seen-judged.ensures c.if-judged-ne0.false c.even_out.ensures c.if-even_out.false in
-    (c.refuse-else-even_out.ensures ∙ said.0, said.1)
+    full_out a.run a.words.now (seen_as a.scan no_parcel a.slots a.books) c.in_ok-judge_seen.ensures refl c.even_out.ensures c.if-not-even_out.true
+
+pub returns : goal.returns
+returns c =
+    let a = c.args in
+    taken a.run a.words.now (seen_as a.scan no_parcel a.slots a.books) c.in_ok-judge_seen.ensures refl c.even_out.ensures c.if-not-even_out.false
