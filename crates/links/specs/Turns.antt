@@ -1,4 +1,4 @@
--- The links of a run one after the other, as the loops go over them, and that a loop which goes so does what `over_rows` of `rules` says. The contracts of `first_link`, `next_to` and `next_link` cite the order, and no public contract does.
+-- The links of a run one after the other, as the loops go over them, and that a loop which goes so does what `over_rows` of `rules` says. The contracts of `first_link`, `next_to`, `next_link` and `links_of` and the iterator `Links` cite the order, and no export does.
 --     at_first, done_next, at_end    what was done on the way to a link: nothing, one link more, all
 --     StandsIn, GivesLink            what the iterator `Links` knows of itself, and what one call of it gives
 --     Done, none_done, one_done, all_done    the same of a loop over the iterator

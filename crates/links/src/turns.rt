@@ -50,7 +50,7 @@ pub fn next_link(link: Link, n: usize) -> Link
     }
 }
 
-// The links of so many sites that are left, from the one where it stands.
+// What is left of the links of so many sites: from the one where it stands on.
 #[derive(Clone, Copy)]
 pub struct Links {
     at: Link,

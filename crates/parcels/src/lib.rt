@@ -33,7 +33,7 @@ pub fn is_occupied(p: Parcel, sites: u64) -> bool
     (1 <= p.length) & (p.length <= M) & (p.site < sites) & (sender < sites) & (sender != p.site)
 }
 
-// What a scan knows once it has seen the slot at `at` too. The slots are seen in order, so a free one counts only where none was seen before.
+// What a scan knows once it has seen the slot at `at` too. The slots are seen in order, so of two free ones the smaller was seen before.
 fn look(s: Scan, p: Parcel, at: usize, sites: u64) -> Scan
     requires { s.waiting < 2 ^ 63 }
     ensures { result ≡ look_of M sites at p s }
