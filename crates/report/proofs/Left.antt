@@ -49,6 +49,13 @@ laid_last l w = record { behind = w.behind ∙ l.behind; bytes = w.bytes ∙ l.b
 pub laid_none : {out before : List ℕ} {place start : ℕ} {text : List ℕ} → Left out place [] (start + length text) (put before start text) → Laid before start text place out
 laid_none {out} {before} {place} {start} {text} l = record { behind = omega (arith, l.behind); bytes = sym (put_nil out place) ∙ l.bytes }
 
+-- one text laid behind another is both of them laid
+pub laid_then : {out mid after : List ℕ} {place next end : ℕ} {a b : List ℕ} → Laid out place a next mid → Laid mid next b end after → place + length a ≤ length out → Laid out place (a ++ b) end after
+laid_then {out} {mid} {after} {place} {next} {end} {a} {b} f g room = record {
+  behind = omega (arith, f.behind, g.behind, length-append a b);
+  bytes = g.bytes ∙ rw (f.behind, f.bytes) (put_put out place a b room);
+}
+
 -- ---- what is laid and what there is room for, in other words
 pub laid_as : {out : List ℕ} {place next : ℕ} {a b after : List ℕ} → a ≡ b → Laid out place a next after → Laid out place b next after
 laid_as e w = rw (← e) w
