@@ -8,6 +8,7 @@ ghost use Rattle.rules.specs.meaning.Operations.{removed_length};
 use rules::{Answer, M};
 
 // Whether an id of this length is listed.
+#[tactic(auto, unfolding(rules::specs::meaning::Lengths::listed))]
 pub fn listed(length: u64) -> bool
     ensures { result ≡ listed length }
 {
@@ -15,10 +16,11 @@ pub fn listed(length: u64) -> bool
 }
 
 // The length after an add. The largest number is odd, so nothing runs over.
+#[tactic(auto, unfolding(rules::specs::meaning::Lengths::after_add, rules::specs::meaning::Lengths::listed))]
 pub fn after_add(length: u64) -> u64
     ensures { result ≡ after_add length }
 {
-    if length % 2 == 1 { length } else { length + 1 }
+    if listed(length) { length } else { length + 1 }
 }
 
 // The length after a remove, refused where that is above the largest.
@@ -53,5 +55,5 @@ pub fn after_remove(length: u64) -> Answer
 pub fn join(a: u64, b: u64) -> u64
     ensures { result ≡ join a b }
 {
-    if a < b { b } else { a }
+    a.max(b)
 }

@@ -1,7 +1,6 @@
 -- What the shift and the or make of a byte, and the turns of the two loops.
 -- Assumes nothing.
 use Prim.Native.Nat.{ℕ, suc, ◌+◌, ◌*◌, ◌-◌, ◌%◌, ◌^◌, ◌≤◌, ◌<◌, min}
-use native.Mathlib.Nat.{mul_comm}
 use native.Mathlib.Numerals.{add-one}
 use native.Mathlib.Omega.{arith}
 use mathlib.Core.Bool.{Bool, true, false, cond}
@@ -9,13 +8,13 @@ use mathlib.Core.Path.{◌≡◌, refl, sym, ap, ◌∙◌}
 use mathlib.Core.Logic.{◌⊎◌, inl, inr}
 use mathlib.Core.List.{List, ◌∷◌}
 use lib.ListN.{length, get_or, take, drop, set, length-take, length-drop, length-set}
-use lib.Seq.{get_or-drop, drop-drop, take_all}
-use lib.Bits.{bit_and, bit_or, and_mask, or_zero_r, or_shifted_r}
+use lib.Seq.{drop-drop, take_all}
+use lib.Bits.{bit_or, or_zero_r, or_shifted_r}
 use lib.Pow.{shl_exact}
 use mir.Val.{bool_byte}
 use Rattle.rules.proofs.laws.table.Order.{lt_or_le}
-use Rattle.rules.specs.meaning.Members.{bits_of, bytes_of, bytes_for, answers_of}
-use Rattle.rules.proofs.laws.Members.{bit, bits_lt, bits_more}
+use Rattle.rules.specs.meaning.Members.{is_member, bits_of, bytes_of, bytes_for, answers_of}
+use Rattle.rules.proofs.laws.Members.{bits_lt, bits_more}
 use Rattle.rules.specs.meaning.Put.{put}
 use Rattle.rules.proofs.laws.Put.{put_cons, put_nil}
 
@@ -24,54 +23,27 @@ shifted : (byte k : ℕ) (l : Bool) → k < 8 → byte < 2 ^ k → bit_or byte (
 shifted byte k true n h = rw (shl_exact {a = 1} 1 k 8 (omega arith) (omega arith), or_shifted_r 1 k byte h) (omega arith)
 shifted byte k false n h = let z : 0 * 2 ^ k ≡ 0 = omega arith in rw (z, or_zero_r byte) (omega arith)
 
--- the mask 7 is the remainder by 8
-pub masked : (i : ℕ) → bit_and i 7 ≡ i % 8
-masked i = and_mask i 3
+-- ---- a byte: its answers so far are those of the first i ids
+module _ (t ids : List ℕ) (few : length ids ≤ 8) where
+  -- the bits from i on are still free
+  packed_lt : (i byte : ℕ) → i ≤ length ids → byte ≡ bits_of t (take i ids) → byte < 2 ^ i
+  packed_lt i byte l p =
+      let n : length (take i ids) ≡ i = omega (arith, length-take i ids) in
+      let b = bits_lt t (take i ids) in
+      rw p (rw n at b)
 
-pub masked_lt : (i : ℕ) → bit_and i 7 < 8
-masked_lt i = omega (arith, masked i)
+  pub packed_more : (i byte : ℕ) (b : Bool) → i < length ids → byte ≡ bits_of t (take i ids) → b ≡ is_member t (get_or ids i 0)
+      → bit_or byte (bool_byte b * 2 ^ i % 2 ^ 8) ≡ bits_of t (take (i + 1) ids)
+  packed_more i byte b l p q =
+      rw (add-one i, bits_more t ids i l, ← q, ← p) (shifted byte i b (omega arith) (packed_lt i byte (omega arith) p))
 
-pub packed : (byte i : ℕ) (l : Bool) → byte < 2 ^ (i % 8) → bit_or byte (bool_byte l * 2 ^ bit_and i 7 % 2 ^ 8) ≡ byte + 2 ^ (i % 8) * cond l 1 0
-packed byte i l h = rw (masked i) (shifted byte (i % 8) l (omega arith) h)
-
--- ---- a byte: its answers so far are those of the first i - from ids
-module _ (t ids : List ℕ) (from : ℕ) where
-  abbrev pub Packed : ℕ → ℕ → Type 0
-  Packed i byte = (from ≤ i) × (byte ≡ bits_of t (take (i - from) (drop from ids)))
-
-  pub packed_none : Packed from 0
-  unfolding bits_of
-  packed_none = let z : from - from ≡ 0 = omega arith in (omega arith, rw z)
-
-  -- the bits from i mod 8 on are still free
-  pub packed_lt : (i byte : ℕ) → from % 8 ≡ 0 → i < min (from + 8) (length ids) → Packed i byte → byte < 2 ^ (i % 8)
-  packed_lt i byte z l p =
-      let k : i - from ≡ i % 8 = omega arith in
-      let n : length (take (i - from) (drop from ids)) ≡ i % 8 = omega (arith, length-take (i - from) (drop from ids), length-drop from ids) in
-      rw (p.1, ← n) (bits_lt t (take (i - from) (drop from ids)))
-
-  pub packed_more : (i byte : ℕ) → from % 8 ≡ 0 → i < min (from + 8) (length ids) → Packed i byte → Packed (i + 1) (byte + 2 ^ (i % 8) * bit t (get_or ids i 0))
-  packed_more i byte z l p =
-      let k : i - from ≡ i % 8 = omega arith in
-      let s : i + 1 - from ≡ suc (i - from) = omega arith in
-      let g : from + (i - from) ≡ i = omega arith in
-      let w = drop from ids in (
-        omega arith,
-        rw (s, bits_more t w (i - from) (omega (arith, length-drop from ids)), get_or-drop from ids (i - from) 0, g, ← k, p.1),
-      )
-
-  pub packed_all : (i byte : ℕ) → min (from + 8) (length ids) ≤ i → i ≤ min (from + 8) (length ids) → Packed i byte → byte ≡ bits_of t (take 8 (drop from ids))
-  packed_all i byte l m p = p.1 ∙ ap (bits_of t) (to_end (lt_or_le (length ids) (from + 8)))
-    where
-      to_end : (length ids < from + 8) ⊎ (from + 8 ≤ length ids) → take (i - from) (drop from ids) ≡ take 8 (drop from ids)
-      to_end (inl q) =
-          let n = length-drop from ids in
-          take_all (i - from) (drop from ids) (omega arith) ∙ sym (take_all 8 (drop from ids) (omega arith))
-      to_end (inr q) = let k : i - from ≡ 8 = omega arith in rw k
-
--- eight ids to a byte: the shift by 3 loses nothing
-pub eightfold : (i : ℕ) → i < 4096 → i * 2 ^ 3 % 2 ^ 64 ≡ 8 * i
-eightfold i h = shl_exact {a = i} 12 3 64 h (omega arith) ∙ mul_comm i 8
+-- the ids of a byte: eight from its first on, or fewer where the list ends
+pub of_byte : (ids : List ℕ) (i : ℕ) → take (min (length ids) (8 * i + 8) - 8 * i) (drop (8 * i) ids) ≡ take 8 (drop (8 * i) ids)
+of_byte ids i = go (lt_or_le (length ids) (8 * i + 8))
+  where
+    go : (length ids < 8 * i + 8) ⊎ (8 * i + 8 ≤ length ids) → take (min (length ids) (8 * i + 8) - 8 * i) (drop (8 * i) ids) ≡ take 8 (drop (8 * i) ids)
+    go (inl q) = take_all _ (drop (8 * i) ids) (omega (arith, length-drop (8 * i) ids)) ∙ sym (take_all 8 (drop (8 * i) ids) (omega (arith, length-drop (8 * i) ids)))
+    go (inr q) = let k : min (length ids) (8 * i + 8) - 8 * i ≡ 8 = omega arith in rw k
 
 -- ---- the buffer: what is still to be put behind the bytes so far makes the whole
 module _ (t ids out : List ℕ) where

@@ -8,6 +8,10 @@ use borrow.Author.Tests.{ltb-false, not-false}
 use Rattle.rules.specs.meaning.Table.{SoundTable}
 use Rattle.rules.specs.meaning.Operations.{unless_refused}
 use Rattle.rules.proofs.laws.run.Steps.{pass}
+use Rattle.std.specs.Prelude.{Result, Ok, Err}
+use Rattle.rules.specs.declared.Refusal.{Refusal}
+use Rattle.rules.specs.meaning.Refusals.{number_of}
+use Rattle.rules.proofs.laws.Determined.{answer_determined}
 use Rattle.rules.specs.meaning.Put.{put}
 use Rattle.rules.specs.meaning.Members.{bytes_for, answers_of, members_refusal, members_after, Answered}
 
@@ -20,14 +24,18 @@ accepted t ids room h =
     let d = pass 12 _ _ c.1 in
     (not-false _ b.0, ltb-false _ _ c.0, ltb-false _ _ d.0)
 
-module _ (t ids out : List ℕ) where
-  pub written : (r : ℕ) (u : List ℕ) → r ≡ members_refusal t (length ids) (length out) → r ≡ 0 → u ≡ put out 0 (answers_of t ids) → Answered t ids out r u
-  unfolding members_after
-  written r u e z q = record { refusal = e; bytes = rw (← e, z) q }
+-- no refusal has the number 0
+above_zero : (e : Refusal) → number_of e ≡ 0 → ⊥
+above_zero e h = let q : ◌≡◌ {A = Result ℕ Refusal} (Err e) (Ok 0) = answer_determined 0 (Err e) (Ok 0) h refl in cc
 
-  pub untouched : (r : ℕ) → r ≡ members_refusal t (length ids) (length out) → (r ≡ 0 → ⊥) → Answered t ids out r out
+module _ (t ids out : List ℕ) where
+  pub written : (u : List ℕ) → 0 ≡ members_refusal t (length ids) (length out) → u ≡ put out 0 (answers_of t ids) → Answered t ids out 0 u
   unfolding members_after
-  untouched r e n = record { refusal = e; bytes = rw (← e) (kept r n) }
+  written u e q = record { refusal = e; bytes = rw (← e) q }
+
+  pub untouched : (e : Refusal) → number_of e ≡ members_refusal t (length ids) (length out) → Answered t ids out (number_of e) out
+  unfolding members_after
+  untouched e q = record { refusal = q; bytes = rw (← q) (kept (number_of e) (above_zero e)) }
     where
       kept : (k : ℕ) → (k ≡ 0 → ⊥) → out ≡ unless_refused k out (put out 0 (answers_of t ids))
       kept zero m = absurd (m refl)

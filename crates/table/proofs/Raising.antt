@@ -21,6 +21,7 @@ use Rattle.rules.proofs.laws.table.Update.{held_with_law, fitting_here}
 use Rattle.rules.proofs.laws.table.Places.{laid_of, at_found, none_found}
 use Rattle.rules.proofs.laws.table.Insert.{raised_set}
 use Rattle.rules.proofs.laws.table.Operations.{raise_refused, raise_accepted}
+use Rattle.table.specs.Loops.{LengthWord}
 
 -- ---- the id stands at place i
 module _ (t : List ℕ) (e i : ℕ) (ok : SoundTable t) (found : found_of t e ≡ Some i) where
@@ -36,20 +37,30 @@ module _ (t : List ℕ) (e i : ℕ) (ok : SoundTable t) (found : found_of t e �
   pub above_zero : 1 ≤ length_of t e
   above_zero = omega (arith, facts.2, (laid_of M t ok).low i facts.0)
 
-  pub raise_here : (m n : ℕ) → m ≡ n → 1 ≤ n → (answer accepted m ≡ raise_answer t e n) × (set t (2 * i + 1) m ≡ raise_table t e n)
+  pub length_word : LengthWord t e (2 * i + 1)
+  length_word = record {
+    within = place;
+    its = its;
+    above_zero = above_zero;
+    raising = λ n pos. sym (raised_set M t ok e n i pos facts.0 facts.1);
+  }
+
+-- ---- the id's length stands in word w
+module _ (t : List ℕ) (e w : ℕ) (ok : SoundTable t) (at : LengthWord t e w) where
+  pub raise_here : (m n : ℕ) → m ≡ n → 1 ≤ n → (answer accepted m ≡ raise_answer t e n) × (set t w m ≡ raise_table t e n)
   raise_here m n q pos =
-      let r = raise_accepted t e n (fitting_here M t e ok n (λ z. absurd (omega (arith, z, above_zero)))) in
-      (rw q (sym r.0), rw q (sym (r.1 ∙ raised_set M t ok e n i pos facts.0 facts.1)))
+      let r = raise_accepted t e n (fitting_here M t e ok n (λ z. absurd (omega (arith, z, at.above_zero)))) in
+      (rw q (sym r.0), rw q (at.raising n pos ∙ sym r.1))
 
   -- a remove that is accepted, by the answer of the rule on one length
-  pub remove_here : (a : Answer) → a ≡ removed_length M (length_of t e) → a.refusal ≡ 0 → set t (2 * i + 1) a.value ≡ remove_table M t e
+  pub remove_here : (a : Answer) → a ≡ removed_length M (length_of t e) → a.refusal ≡ 0 → set t w a.value ≡ remove_table M t e
   unfolding removed_length remove_table remove_refusal
   remove_here a q z = go (length_refusal M (after_remove (length_of t e))) refl
     where
-      go : (r : ℕ) → length_refusal M (after_remove (length_of t e)) ≡ r → set t (2 * i + 1) a.value ≡ unless_refused (length_refusal M (after_remove (length_of t e))) t (raised t e (after_remove (length_of t e)))
+      go : (r : ℕ) → length_refusal M (after_remove (length_of t e)) ≡ r → set t w a.value ≡ unless_refused (length_refusal M (after_remove (length_of t e))) t (raised t e (after_remove (length_of t e)))
       go zero p =
           let v : a.value ≡ after_remove (length_of t e) = ap (λ (x : Answer). x.value) q ∙ (rw p) in
-          rw (p, v) (sym (raised_set M t ok e (after_remove (length_of t e)) i (omega (arith, above_zero, remove_rises (length_of t e))) facts.0 facts.1))
+          rw (p, v) (at.raising (after_remove (length_of t e)) (omega (arith, at.above_zero, remove_rises (length_of t e))))
       go (suc r) p = absurd (suc-ne-zero r (sym (ap (λ (x : Answer). x.refusal) q ∙ (rw p)) ∙ z))
 
 -- and one that is refused
@@ -66,7 +77,8 @@ module _ (t : List ℕ) (e : ℕ) (ok : SoundTable t) (found : found_of t e ≡ 
   pub none : length_of t e ≡ 0
   none = none_found (laid_of M t ok) e found
 
-  -- a length that stays 0 makes no entry
+-- a length that stays 0 makes no entry
+module _ (t : List ℕ) (e : ℕ) (ok : SoundTable t) (none : length_of t e ≡ 0) where
   pub raise_none : (answer accepted 0 ≡ raise_answer t e 0) × (t ≡ raise_table t e 0)
   unfolding raised
   raise_none = let r = raise_accepted t e 0 (fitting_here M t e ok 0 (λ z. refl)) in (sym r.0, sym r.1)

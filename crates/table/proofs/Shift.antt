@@ -3,42 +3,28 @@
 use Prim.Native.Nat.{ℕ, suc, ◌+◌, ◌*◌, ◌-◌, ◌≤◌, ◌<◌}
 use native.Mathlib.Nat.{le_refl, eq-or-lt_of_le}
 use native.Mathlib.Omega.{arith}
-use mathlib.Core.Path.{◌≡◌, refl, sym, ◌∙◌}
+use mathlib.Core.Path.{◌≡◌, sym, ◌∙◌}
 use mathlib.Core.Logic.{⊎_elim}
 use mathlib.Core.List.{List, [], ◌++◌, append-nil}
-use lib.ListN.{length, get_or, set, take, drop, length-set, length-drop, length-append, get_or-append}
-use lib.Seq.{get_or-set_same, get_or-set_other, ext_get_or, length-take-le, take_all, drop-drop, drop-length, get_or-append-add, get_or-take, get_or-drop}
+use lib.ListN.{length, get_or, take, drop, length-drop, length-append, get_or-append}
+use lib.Seq.{ext_get_or, length-take-le, take_all, drop-drop, drop-length, get_or-append-add, get_or-take, get_or-drop}
 use Rattle.rules.proofs.laws.table.Update.{raised_length}
 use Rattle.rules.proofs.laws.table.Order.{lt_or_le}
 use Rattle.rules.specs.meaning.Table.{id_at, length_at, length_of, rank, raised}
 use Rattle.rules.proofs.laws.table.Places.{Laid, length_of_at, rank_most, rank_under, rank_over}
 use Rattle.rules.proofs.laws.table.Insert.{raised_laid, raised_below, raised_above, raised_at}
+use Rattle.std.specs.List.{CopiedTo, SameFrom}
 use Rattle.table.specs.Loops.{Moved, entry}
 use Rattle.table.proofs.Pairs.{entry_length, entry_other, entry_id, entry_length_at, place_of, agree_below, agree_from}
 
-pub move_start : (w : List ℕ) (count : ℕ) → Moved w count count w
-move_start w count = record {
-  size = refl;
-  front = λ j p. refl;
-  moved = λ j p q. absurd (omega arith);
-  back = λ j p. refl;
+-- what `copy_within` ensures of the first words, copied two words further on
+pub moved_on : (w v : List ℕ) (count : ℕ) → length v ≡ length w → CopiedTo w v 0 2 (count - 0) → SameFrom w v (2 + (count - 0)) → Moved w count 0 v
+moved_on w v count n copied same = record {
+  size = n;
+  front = λ j p. absurd (omega arith);
+  moved = λ j p q. let back : 0 + (j + 2 - 2) ≡ j = omega arith in rw back at (copied (j + 2) 0 (omega arith) (omega arith));
+  back = λ j p. same j 0 (omega arith);
 }
-
--- one word more
-module _ (w u : List ℕ) (count i p : ℕ) (m : Moved w count i u) (fits : count + 2 ≤ length w) (upto : i ≤ count) (q : suc p ≡ i) where
-  pub move_more : Moved w count p (set u (p + 2) (get_or u p 0))
-  move_more = record {
-    size = length-set u (p + 2) _ ∙ m.size;
-    front = λ j l. other j (omega arith) ∙ m.front j (omega arith);
-    moved = λ j l h. ⊎_elim (λ e. rw (← e) here) (λ g. other (j + 2) (omega arith) ∙ m.moved j (omega arith) h) (eq-or-lt_of_le l);
-    back = λ j l. other j (omega arith) ∙ m.back j l;
-  }
-    where
-      other : (j : ℕ) → (j ≡ p + 2 → ⊥) → get_or (set u (p + 2) (get_or u p 0)) j 0 ≡ get_or u j 0
-      other j h = get_or-set_other u (p + 2) j (get_or u p 0) 0 h
-
-      here : get_or (set u (p + 2) (get_or u p 0)) (p + 2) 0 ≡ get_or w p 0
-      here = get_or-set_same u (p + 2) (get_or u p 0) 0 (omega (arith, m.size)) ∙ m.front p (omega arith)
 
 -- the part from a word on, moved and put back: the whole, moved from that word on
 module _ (t v : List ℕ) (from count : ℕ) (le : from ≤ length t) where

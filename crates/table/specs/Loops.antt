@@ -1,7 +1,7 @@
 -- What the loops of this crate compute, turn by turn: only contracts of its own helpers cite these.
 -- Assumes nothing.
 use Rattle.std.specs.Prelude.{ℕ, zero, suc, ◌+◌, ◌*◌, ◌≤◌, ◌<◌, Bool, true, ◌&&◌, not, ◌≡◌, List, [], ◌∷◌, length, get_or, drop, set, leb, ltb, eqb}
-use Rattle.rules.specs.meaning.Table.{id_at, length_at}
+use Rattle.rules.specs.meaning.Table.{id_at, length_at, length_of, raised}
 
 -- the first k entries: each length 1 to `most`, each id above the one before
 unfoldable pub entries_good : ℕ → List ℕ → ℕ → Bool
@@ -37,3 +37,10 @@ pub record Moved (w : List ℕ) (count i : ℕ) (u : List ℕ) : Type 0 where
   pub front : (j : ℕ) → j < i → get_or u j 0 ≡ get_or w j 0
   pub moved : (j : ℕ) → i ≤ j → j < count → get_or u (j + 2) 0 ≡ get_or w j 0
   pub back : (j : ℕ) → count + 2 ≤ j → get_or u j 0 ≡ get_or w j 0
+
+-- word w of a table has the length of the id e, and a length put there raises the id to it
+pub record LengthWord (t : List ℕ) (e w : ℕ) : Type 0 where
+  pub within : w < length t
+  pub its : get_or t w 0 ≡ length_of t e
+  pub above_zero : 1 ≤ length_of t e
+  pub raising : (n : ℕ) → 1 ≤ n → set t w n ≡ raised t e n

@@ -1,7 +1,7 @@
 // Where an id stands in a sound table.
-ghost use Rattle.std.specs.Prelude.{◌≡◌, not, ◌&&◌, ◌+◌, ◌*◌, ◌^◌, ◌≤◌, ◌<◌, leb, eqb, length};
+ghost use Rattle.std.specs.Prelude.{◌≡◌, not, ◌&&◌, ◌+◌, ◌*◌, ◌^◌, ◌≤◌, ◌<◌, leb, eqb, length, MatchOption};
 ghost use Rattle.rules.specs.meaning.Table.{SoundTable, held, rank, found_of, length_of, id_at, length_at};
-ghost use Rattle.table.specs.Loops.{Span};
+ghost use Rattle.table.specs.Loops.{Span, LengthWord};
 
 // The exponent of a power of two that is within the number and at least half of it.
 fn halvings(n: usize) -> usize
@@ -10,11 +10,7 @@ fn halvings(n: usize) -> usize
     ensures result_bound { 2 ^ result ≤ n }
     ensures n_bound { n ≤ 2 * 2 ^ result }
 {
-    if n == 1 {
-        0
-    } else {
-        (63 - usize::leading_zeros(n - 1)) as usize
-    }
+    if n == 1 { 0 } else { (n - 1).ilog2() as usize }
 }
 
 // Whether a place is in use with an id no greater than the one sought.
@@ -34,16 +30,12 @@ fn nearest(table: &[u64], id: u64) -> usize
     ensures { Span table.now (held table.now) id result 1 }
 {
     let n = table.len() / 2;
-    let mut k = halvings(n);
-    let mid = n - (1 << k);
-    let mut base = 0;
-    if reaches(table, mid, id) {
-        base = mid;
-    }
-    while 0 < k {
-        k = k - 1;
+    let steps = halvings(n);
+    let mid = n - (1 << steps);
+    let mut base = if reaches(table, mid, id) { mid } else { 0 };
+    for k in (0..steps).rev() {
         let up = reaches(table, base + (1 << k), id);
-        base = base + ((up as usize) << k);
+        base += (up as usize) << k;
     }
     base
 }
@@ -68,11 +60,21 @@ pub fn lookup(table: &[u64], id: u64) -> Option<usize>
 pub(crate) fn rank(table: &[u64], id: u64) -> usize
     requires sound_table { SoundTable table.now }
     requires in_bounds { 2 ≤ length table.now }
-    ensures { result ≡ rank table.now id }
+    ensures value { result ≡ rank table.now id }
+    ensures within { result ≤ held table.now }
 {
     let near = nearest(table, id);
     let smaller = (table[2 * near + 1] != 0) & (table[2 * near] < id);
     near + (smaller as usize)
+}
+
+// The word that holds an id's length, where the id stands.
+pub(crate) fn length_word(table: &[u64], id: u64) -> Option<usize>
+    requires { SoundTable table.now }
+    ensures { MatchOption result (length_of table.now id ≡ 0) (LengthWord table.now id) }
+{
+    let i = lookup(table, id)?;
+    Some(2 * i + 1)
 }
 
 // The length that the table has for an id, 0 where it has no entry.
@@ -80,8 +82,8 @@ pub fn query(table: &[u64], id: u64) -> u64
     requires { SoundTable table.now }
     ensures { result ≡ length_of table.now id }
 {
-    let Some(i) = lookup(table, id) else {
-        return 0;
-    };
-    table[2 * i + 1]
+    match length_word(table, id) {
+        Some(at) => table[at],
+        None => 0,
+    }
 }

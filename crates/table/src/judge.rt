@@ -4,6 +4,7 @@ ghost use Rattle.rules.specs.meaning.Lengths.{M};
 ghost use Rattle.rules.specs.meaning.Table.{SoundTable, sound, held, shown};
 ghost use Rattle.table.specs.Loops.{entries_good, all_zero};
 
+use lengths::listed;
 use rules::M;
 
 // A number of entries: those in use where the words are a sound table, and some number where they are not.
@@ -11,18 +12,18 @@ fn used(words: &[u64]) -> usize
     ensures result_in_bounds { 2 * result ≤ length words.now }
     ensures words_value { SoundTable words.now → held words.now ≡ result }
 {
-    let mut base = 0;
     let mut size = words.len() / 2;
     if size == 0 {
         return 0;
     }
+    let mut base = 0;
     while 1 < size {
         let half = size / 2;
         let mid = base + half;
         if words[2 * mid + 1] != 0 {
             base = mid;
         }
-        size = size - half;
+        size -= half;
     }
     if words[2 * base + 1] != 0 {
         base + 1
@@ -42,13 +43,11 @@ fn entries_good(words: &[u64], count: usize) -> bool
     let mut before = words[0];
     let first = words[1];
     let mut good = (first != 0) & (first <= M);
-    let mut i = 1;
-    while i < count {
+    for i in 1..count {
         let id = words[2 * i];
         let len = words[2 * i + 1];
         good = good & (before < id) & (len != 0) & (len <= M);
         before = id;
-        i += 1;
     }
     good
 }
@@ -58,11 +57,9 @@ fn all_zero(words: &[u64], from: usize) -> bool
     requires { from ≤ length words.now }
     ensures { result ≡ all_zero words.now from }
 {
-    let mut any: u64 = 0;
-    let mut j = from;
-    while j < words.len() {
-        any = any | words[j];
-        j += 1;
+    let mut any = 0;
+    for w in &words[from..] {
+        any |= *w;
     }
     any == 0
 }
@@ -91,14 +88,11 @@ pub fn held(table: &[u64]) -> usize
 pub fn shown(table: &[u64]) -> usize
     ensures { result ≡ shown table.now }
 {
-    let places = table.len() / 2;
     let mut count = 0;
-    let mut i = 0;
-    while i < places {
-        if table[2 * i + 1] % 2 == 1 {
+    for i in 0..table.len() / 2 {
+        if listed(table[2 * i + 1]) {
             count += 1;
         }
-        i += 1;
     }
     count
 }

@@ -4,7 +4,6 @@
 
 mod find;
 mod judge;
-mod places;
 mod raise;
 
 pub use find::{lookup, query};

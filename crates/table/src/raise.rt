@@ -4,13 +4,13 @@ ghost use Rattle.rules.specs.meaning.Lengths.{M, join};
 ghost use Rattle.rules.specs.meaning.Table.{SoundTable, held, length_of, held_with, raised};
 ghost use Rattle.rules.specs.meaning.Operations.{crowded, raise_answer, raise_table, add_answer, add_table, absorb_answer, absorb_table, remove_answer, remove_table};
 
-use crate::find::{lookup, rank};
+use crate::find::{length_word, rank};
 use crate::judge::held;
-use crate::places::{move_on, write};
 use lengths::{after_add, after_remove, join};
 use rules::Answer;
 
-// An id without an entry is given one: the entries with larger ids move on by one place.
+// An id without an entry is given one: the entries with larger ids move on by one place. They are moved within the part that begins with them: so the compiler
+// makes one call of memmove, which it does not for words that begin inside of what it is given.
 fn insert(table: &mut [u64], used: usize, id: u64, length: u64)
     requires sound_table { SoundTable table.old }
     requires used_value { used ≡ held table.old }
@@ -18,10 +18,10 @@ fn insert(table: &mut [u64], used: usize, id: u64, length: u64)
     requires id_value { (length_of table.old id ≡ 0) × (1 ≤ length) }
     ensures { table.new ≡ raised table.old id length }
 {
-    let place = rank(table, id);
-    let from = 2 * place;
-    move_on(&mut table[from..], 2 * used - from);
-    write(table, place, id, length);
+    let from = 2 * rank(table, id);
+    table[from..].copy_within(..2 * used - from, 2);
+    table[from] = id;
+    table[from + 1] = length;
 }
 
 // The same where there is room, and refused where every place is used.
@@ -51,15 +51,15 @@ pub fn add(table: &mut [u64], id: u64) -> Answer
     ensures value { result ≡ add_answer table.old id }
     ensures table_after { table.new ≡ add_table table.old id }
 {
-    if let Some(i) = lookup(table, id) {
-        let after = after_add(table[2 * i + 1]);
-        table[2 * i + 1] = after;
-        return Answer {
-            refusal: 0,
-            value: after,
-        };
+    let Some(at) = length_word(table, id) else {
+        return enter(table, id, 1);
+    };
+    let after = after_add(table[at]);
+    table[at] = after;
+    Answer {
+        refusal: 0,
+        value: after,
     }
-    enter(table, id, 1)
 }
 
 // The id is no longer listed: an odd length rises by 1, an even one stays, and an id never held gets no entry.
@@ -68,15 +68,15 @@ pub fn remove(table: &mut [u64], id: u64) -> Answer
     ensures value { result ≡ remove_answer M table.old id }
     ensures table_after { table.new ≡ remove_table M table.old id }
 {
-    let Some(i) = lookup(table, id) else {
+    let Some(at) = length_word(table, id) else {
         return Answer {
             refusal: 0,
             value: 0,
         };
     };
-    let after = after_remove(table[2 * i + 1]);
+    let after = after_remove(table[at]);
     if after.refusal == 0 {
-        table[2 * i + 1] = after.value;
+        table[at] = after.value;
     }
     after
 }
@@ -87,21 +87,21 @@ pub fn absorb(table: &mut [u64], id: u64, length: u64) -> Answer
     ensures value { result ≡ absorb_answer table.old id length }
     ensures table_after { table.new ≡ absorb_table table.old id length }
 {
-    if let Some(i) = lookup(table, id) {
-        let after = join(table[2 * i + 1], length);
-        table[2 * i + 1] = after;
-        return Answer {
-            refusal: 0,
-            value: after,
-        };
-    }
-    if length == 0 {
-        return Answer {
+    match length_word(table, id) {
+        Some(at) => {
+            let after = join(table[at], length);
+            table[at] = after;
+            Answer {
+                refusal: 0,
+                value: after,
+            }
+        }
+        None if length == 0 => Answer {
             refusal: 0,
             value: 0,
-        };
+        },
+        None => enter(table, id, length),
     }
-    enter(table, id, length)
 }
 
 // Whether `absorb` would be refused, with nothing written: for a caller that has something else to test before it absorbs.
@@ -109,11 +109,8 @@ pub fn lacks_room(table: &[u64], id: u64, length: u64) -> bool
     requires { SoundTable table.now }
     ensures { result ≡ crowded table.now (held_with table.now id (join (length_of table.now id) length)) }
 {
-    if let Some(i) = lookup(table, id) {
-        return false;
+    match length_word(table, id) {
+        Some(_) => false,
+        None => length != 0 && table.len() / 2 <= held(table),
     }
-    if length == 0 {
-        return false;
-    }
-    table.len() / 2 <= held(table)
 }

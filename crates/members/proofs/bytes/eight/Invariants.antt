@@ -1,10 +1,7 @@
--- `members::bytes::eight`: the byte holds the answers so far (`Packed`).
-use Prim.Native.Nat.{◌≤◌, ◌-◌}
-use Rattle.members.proofs.Packing.{Packed}
+-- `members::bytes::eight`: the byte holds the answers so far.
+use Rattle.std.proofs.Common.{◌≡◌, take}
+use Rattle.rules.specs.meaning.Members.{bits_of}
 use Rattle.members.proofs.bytes.eight.Given as goal
 
 abbrev pub invariant-loop-i : goal.invariant-loop-i
-invariant-loop-i l = (l.i ≤ l.end) × Packed l.table l.ids l.from l.i l.byte
-
-abbrev pub decreases-loop-i : goal.decreases-loop-i
-decreases-loop-i l = l.end - l.i
+invariant-loop-i l = l.byte ≡ bits_of l.table (take l.i l.ids)

@@ -1,17 +1,14 @@
 -- `table::judge::all_zero`: the words so far and the words that are left are all the words.
-use mathlib.Core.Path.{refl}
+use Rattle.std.proofs.Common.{ap, ◌∙◌, drop, take_all, length-drop, arith}
+use Rattle.table.specs.Loops.{zeros}
 use Rattle.table.proofs.Judging.{zero_more, zero_end}
-use native.Mathlib.Omega.{arith}
-use borrow.Author.Rules.{rules}
 use Rattle.table.proofs.judge.all_zero.Goals as goal
 
-pub loop-j-init : goal.loop-j-init
-loop-j-init c = (search rules, refl)
-
-pub loop-j-preserved : goal.loop-j-preserved
-loop-j-preserved c =
-    let l = c.loop-j in
-    (omega arith, zero_more _ l.j l.any _ c.loop-j-test.true l.invariant.1)
+pub loop-w-preserved : goal.loop-w-preserved
+loop-w-preserved c = zero_more _ c.loop-w.w-index c.loop-w.any _ c.loop-w-test.true c.loop-w.invariant
 
 pub returns : goal.returns
-returns c = zero_end _ c.loop-j.j c.loop-j.any _ c.loop-j-test.false c.loop-j.invariant.1
+returns c =
+    let left = drop c.args.from c.args.words.now in
+    zero_end _ c.loop-w.w-index c.loop-w.any _ c.loop-w-test.false c.loop-w.invariant
+    ∙ ap zeros (take_all _ left (omega (arith, length-drop c.args.from c.args.words.now)))

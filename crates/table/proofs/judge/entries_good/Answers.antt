@@ -5,7 +5,6 @@ use Rattle.rules.specs.meaning.Lengths.{M}
 use Rattle.table.specs.Loops.{entries_good}
 use Rattle.table.proofs.Judging.{good_more}
 use native.Mathlib.Omega.{arith}
-use borrow.Author.Rules.{rules}
 use Rattle.table.proofs.judge.entries_good.Goals as goal
 
 pub returns-then-count-eq0 : goal.returns-then-count-eq0
@@ -14,15 +13,10 @@ returns-then-count-eq0 c = rw c.if-count-eq0.true
 
 pub loop-i-init : goal.loop-i-init
 unfolding entries_good
-loop-i-init c = (search rules, omega arith, refl, refl)
+loop-i-init c = (refl, refl)
 
 pub loop-i-preserved : goal.loop-i-preserved
 loop-i-preserved c =
     let l = c.loop-i in
     let back : l.i + 1 - 1 ≡ l.i = omega arith in
-    (omega arith, omega arith, rw back, good_more M _ l.i l.invariant.0 l.good l.before l.invariant.2 l.invariant.3)
-
-pub returns : goal.returns
-returns c =
-    let end : c.loop-i.i ≡ c.args.count = omega arith in
-    rw (← end) c.loop-i.invariant.3
+    (rw back, good_more M _ l.i (omega arith) l.good l.before l.invariant.0 l.invariant.1)

@@ -1,5 +1,5 @@
 -- `table::judge::entries_good`: after i entries the loop has computed `entries_good` of them.
-use Prim.Native.Nat.{◌≤◌, ◌-◌}
+use Prim.Native.Nat.{◌-◌}
 use mathlib.Core.Path.{◌≡◌}
 use Rattle.rules.specs.meaning.Lengths.{M}
 use Rattle.rules.specs.meaning.Table.{id_at}
@@ -7,7 +7,4 @@ use Rattle.table.specs.Loops.{entries_good}
 use Rattle.table.proofs.judge.entries_good.Given as goal
 
 abbrev pub invariant-loop-i : goal.invariant-loop-i
-invariant-loop-i l = (1 ≤ l.i) × (l.i ≤ l.count) × (l.before ≡ id_at l.words (l.i - 1)) × (l.good ≡ entries_good M l.words l.i)
-
-abbrev pub decreases-loop-i : goal.decreases-loop-i
-decreases-loop-i l = l.count - l.i
+invariant-loop-i l = (l.before ≡ id_at l.words (l.i - 1)) × (l.good ≡ entries_good M l.words l.i)

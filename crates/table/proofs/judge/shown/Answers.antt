@@ -1,12 +1,7 @@
 -- `table::judge::shown`: the entries counted so far and those left to count are all that are listed.
-use Prim.Native.Nat.{◌≤◌, ◌+◌, ◌*◌}
-use lib.ListN.{length}
+use Rattle.std.proofs.Common.{◌≤◌, ◌+◌, ◌*◌, length, arith}
 use Rattle.table.proofs.Counting.{shown_more, shown_same, shown_end}
-use native.Mathlib.Omega.{arith}
 use Rattle.table.proofs.judge.shown.Goals as goal
-
-pub loop-i-init : goal.loop-i-init
-loop-i-init c = (omega arith, omega arith, omega arith, omega arith, omega arith)
 
 pub loop-i-preserved : goal.loop-i-preserved
 loop-i-preserved c =

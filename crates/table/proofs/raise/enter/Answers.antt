@@ -9,15 +9,6 @@ returns-then-table-used c =
     let r = enter_full c.args.table.now c.args.id c.args.length c.requires.id_value.0 c.requires.id_value.1 (omega (arith, c.if-table-used.true, c.held-used.ensures)) in
     record { value = r.0; table_after = r.1 }
 
-pub insert-requires : goal.insert-requires
-insert-requires c =
-    record {
-      sound_table = c.requires.sound_table;
-      used_value = c.held-used.ensures;
-      used_bound = omega (arith, c.if-table-used.false);
-      id_value = c.requires.id_value;
-    }
-
 pub returns : goal.returns
 returns c =
     let r = enter_roomy c.args.table.now c.args.id c.args.length c.requires.id_value.0 c.requires.id_value.1 (omega (arith, c.if-table-used.false, c.held-used.ensures)) in

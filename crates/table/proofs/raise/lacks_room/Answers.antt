@@ -1,24 +1,23 @@
 -- An id that stands has its place, and an id that does not needs one where it is given a length.
-use Rattle.std.proofs.Common.{◌≡◌, sym, arith}
+use Rattle.std.proofs.Common.{◌≡◌, arith}
 use Rattle.rules.specs.meaning.Lengths.{join}
 use Rattle.rules.specs.meaning.Table.{length_of}
-use Rattle.table.proofs.Raising.{above_zero, none, room_here, room_new}
+use Rattle.table.proofs.Raising.{room_here, room_new}
 use Rattle.table.proofs.raise.lacks_room.Goals as goal
 
-pub returns-in-At : goal.returns-in-At
-returns-in-At c =
+pub returns-in-Some : goal.returns-in-Some
+returns-in-Some c =
+    let e = c.args.id in
     let t = c.args.table.now in
-    let found = sym c.in-At.ensures in
-    room_here t c.args.id (join (length_of t c.args.id) c.args.length) c.requires (λ z. absurd (omega (arith, z, above_zero t c.args.id c.in-At.i c.requires found)))
+    room_here t e (join (length_of t e) c.args.length) c.requires (λ z. absurd (omega (arith, z, c.in-Some.ensures.above_zero)))
 
-pub returns-then-length-eq0 : goal.returns-then-length-eq0
-returns-then-length-eq0 c =
-    let t = c.args.table.now in
-    let zero = none _ _ c.requires (sym c.in_default.ensures) in
-    let q : join (length_of t c.args.id) c.args.length ≡ 0 = omega (arith, zero) in
-    room_here t c.args.id _ c.requires (λ z. q)
+pub returns-else-length-ne0 : goal.returns-else-length-ne0
+returns-else-length-ne0 c =
+    let none : length_of c.args.table.now c.args.id ≡ 0 = c.in-None.ensures in
+    let zero : join (length_of c.args.table.now c.args.id) 0 ≡ 0 = omega (arith, none) in
+    rw c.if-length-ne0.false (room_here _ _ _ c.requires (λ z. zero))
 
-pub returns : goal.returns
-returns c =
-    let zero = none _ _ c.requires (sym c.in_default.ensures) in
-    room_new c.args.table.now c.args.id _ c.held.result zero (omega (arith, zero)) c.held.ensures
+pub returns-then-length-ne0 : goal.returns-then-length-ne0
+returns-then-length-ne0 c =
+    let none : length_of c.args.table.now c.args.id ≡ 0 = c.in-None.ensures in
+    room_new c.args.table.now c.args.id _ c.held.result none (omega (arith, none)) c.held.ensures
