@@ -1,29 +1,31 @@
 -- Numbers in eight bytes each, and the area of 32 bytes that they make.
 use mathlib.Core.Path.{◌≡◌}
 use mathlib.Core.List.{List}
-use Prim.Native.Nat.{ℕ, suc, ◌+◌, ◌/◌, ◌%◌, ◌≤◌, ◌<◌}
+use Prim.Native.Nat.{ℕ, ◌≤◌, ◌<◌}
 use native.Mathlib.Omega.{arith}
-use native.Mathlib.Numerals.{add-one}
 use borrow.Author.Tests.{lt-ltb, le-ltb}
-use lib.Bits.{bit_and, and_mask}
-use lib.ListN.{length, set}
+use borrow.Rule.Slice.PartMut.{put_mid}
+use lib.ListN.{length}
+use Rattle.std.proofs.Common.{drop-drop}
 use Rattle.std.specs.Prelude.{None}
+use Rattle.std.specs.Int.{w64, to_le_bytes}
+use Rattle.std.proofs.Math.Nat.{div-div-eq-div-mul}
 use Rattle.rules.specs.meaning.Lines.{numbers_of, four}
 use Rattle.rules.specs.meaning.Refusals.{first_given}
 use Rattle.rules.specs.meaning.Put.{put}
-use Rattle.rules.proofs.laws.Put.{put_nil, put_cons}
 use Rattle.rules.specs.meaning.Area.{little, word, laid, is_no_line, read_refusal, area_after}
 use Rattle.rules.proofs.laws.line.Area.{little_length}
 use Rattle.lines.proofs.Writings.{put_four}
 
--- ---- a number in bytes: what is left of it, put at the place, gives the buffer that is promised
-pub word_turn : (out : List ℕ) (i k n : ℕ) → i < length out → put (set out i (bit_and n 255)) (i + 1) (little k (n / 256)) ≡ put out i (little (suc k) n)
+-- ---- a number in bytes, as the library has them
+pub word_bytes : (n : ℕ) → to_le_bytes w64 n ≡ word n
 unfolding little
-word_turn out i k n h = rw (and_mask n 8, add-one) (put_cons out i (n % 256) (little k (n / 256)) h)
+word_bytes n = simp div-div-eq-div-mul
 
-pub word_done : (out : List ℕ) (i k n : ℕ) → k ≡ 0 → put out i (little k n) ≡ out
-unfolding little
-word_done out i k n z = rw z (put_nil out i)
+-- a part of a buffer that was written over
+pub put_part : (out : List ℕ) (at : ℕ) (k : ℕ) (now bytes : List ℕ) → now ≡ bytes → k ≡ length bytes → put_mid at k out now ≡ put out at bytes
+unfolding put
+put_part out at k now bytes e n = rw (e, n, drop-drop)
 
 -- ---- the area of 32 bytes
 module _ (line area : List ℕ) where

@@ -4,7 +4,7 @@ use Prim.Native.Nat.{ℕ, ◌+◌, ◌/◌, ◌^◌, ◌≤◌, ◌<◌}
 use native.Mathlib.Omega.{arith}
 use lib.ListN.{length}
 use Rattle.rules.specs.meaning.Number.{digits}
-use Rattle.rules.proofs.laws.line.Numbers.{one_digit, more_digits}
+use Rattle.rules.proofs.laws.line.Numbers.{digits_length, one_digit, more_digits}
 
 pub two_digits : (n : ℕ) → 10 ≤ n → n < 100 → length (digits n) ≡ 2
 two_digits n l h = omega (arith, more_digits n l (omega arith), one_digit (n / 10) (omega arith))
@@ -27,3 +27,6 @@ four_more n l h =
     let k : n / 100 / 100 ≡ n / 10000 = omega arith in
     let e : length (digits (n / 100 / 100)) ≡ length (digits (n / 10000)) = ap (λ (m : ℕ). length (digits m)) k in
     omega (arith, e, two_more n (omega arith) h, two_more (n / 100) (omega arith) (omega arith))
+
+-- how many digits are left where the loop ends, and at most
+pub ruleset counted = (digits_length, one_digit, two_digits, three_digits, four_digits, four_more)

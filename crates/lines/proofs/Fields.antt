@@ -29,7 +29,7 @@ field_on used name line place v i r u e n = rw (u, (text_says line place name v 
 pub for_use : {u w : Bool} {r : Option (ℕ × ℕ)} (name line : List ℕ) (place : ℕ) → r ≡ field_at u name line place → u ≡ w → r ≡ field_at w name line place
 for_use name line place e q = rw (← q) e
 
-field_length : (used : Bool) (name : List ℕ) (n : ℕ) → length (field used name n) ≡ cond used (length name + length (digits n)) 0
+pub field_length : (used : Bool) (name : List ℕ) (n : ℕ) → length (field used name n) ≡ cond used (length name + length (digits n)) 0
 unfolding field
 field_length true name n = length-append name (digits n)
 field_length false name n = refl
@@ -55,3 +55,5 @@ len_field u used name n r l e h = rw (field_length used name n, l, ← e) h
 -- the same, of the length
 pub used_length : {u used : Bool} (name : List ℕ) (n : ℕ) → u ≡ used → length (field u name n) ≡ length (field used name n)
 used_length name n e = rw e
+
+pub ruleset fields = (field_length, put_none)

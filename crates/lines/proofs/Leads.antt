@@ -5,23 +5,13 @@ use mathlib.Core.List.{List, ◌++◌}
 use Prim.Native.Nat.{ℕ, zero, suc, ◌≤◌, ◌<◌}
 use native.Mathlib.Omega.{arith}
 use lib.Dec.{eqb}
-use lib.ListN.{length, get_or, take, drop, length-append, get_or-append}
+use lib.ListN.{length, get_or, drop, length-append, get_or-append}
 use Rattle.std.specs.Prelude.{Some, None}
 use Rattle.rules.specs.meaning.Text.{front, refused, behind}
 use Rattle.rules.specs.meaning.Lines.{lead, kind_of}
 use Rattle.rules.proofs.laws.line.Lines.{kind_lead, kind_text, behind_is, behind_text, front_cases}
 use Rattle.rules.specs.meaning.Places.{text_at, kind_at}
 use Rattle.rules.proofs.laws.line.Places.{to_place, to_none, from_none, text_says}
-
--- ---- the leads, kind by kind
-pub same_len : (k kind : ℕ) → k ≤ kind → kind ≤ k → length (lead k) ≡ length (lead kind)
-same_len k kind p q = let e : k ≡ kind = omega arith in ap (λ (j : ℕ). length (lead j)) e
-
-pub same_text : (k kind : ℕ) (text : List ℕ) → k ≤ kind → kind ≤ k → take (length (lead k)) text ≡ lead k → take (length (lead kind)) text ≡ lead kind
-same_text k kind text p q h = let e : k ≡ kind = omega arith in rw (← e) h
-
-pub lead_is : (kind n : ℕ) (text : List ℕ) → n ≡ length (lead kind) → take (length (lead kind)) text ≡ lead kind → take n text ≡ lead kind
-lead_is kind n text e h = ap (λ (k : ℕ). take k text) e ∙ h
 
 -- ---- the kind that two bytes leave, as the code tells it
 unfoldable pub told : ℕ → ℕ → ℕ
@@ -52,8 +42,9 @@ seen (suc (suc (suc (suc (suc (suc (suc zero))))))) p q = record { is = refl; lo
 seen (suc (suc (suc (suc (suc (suc (suc (suc zero)))))))) p q = record { is = refl; long = omega arith }
 seen (suc (suc (suc (suc (suc (suc (suc (suc (suc k))))))))) p q = absurd (omega arith)
 
-pub only : (a b r : ℕ) → told a b ≡ r → (k : ℕ) → 1 ≤ k → k ≤ 8 → get_or (lead k) 5 0 ≡ a → get_or (lead k) 6 0 ≡ b → k ≡ r
-only a b r e k p q ea eb = sym (seen k p q).is ∙ ap (λ (x : ℕ). told x (get_or (lead k) 6 0)) ea ∙ ap (told a) eb ∙ e
+pub only : (a b r : ℕ) → 1 ≤ r → r ≤ 8 → told a b ≡ r
+    → (1 ≤ r) × (r ≤ 8) × ((k : ℕ) → 1 ≤ k → k ≤ 8 → get_or (lead k) 5 0 ≡ a → get_or (lead k) 6 0 ≡ b → k ≡ r)
+only a b r low high e = (low, high, λ k p q ea eb. sym (seen k p q).is ∙ ap (λ (x : ℕ). told x (get_or (lead k) 6 0)) ea ∙ ap (told a) eb ∙ e)
 
 -- ---- the kind of a line
 record Begins (line : List ℕ) (k : ℕ) (rest : List ℕ) : Type 0 where

@@ -40,9 +40,6 @@ module _ (line : List ℕ) (place : ℕ) (text : List ℕ) where
   abbrev pub Kept : ℕ → Type 0
   Kept j = behind (drop j text) (drop (place + j) line) ≡ behind text (drop place line)
 
-  pub text_begins : Kept 0
-  text_begins = let k : place + 0 ≡ place = omega arith in rw k
-
   module _ (j : ℕ) (kept : Kept j) where
     pub text_more : place + j < length line → j < length text → get_or line (place + j) 0 ≡ get_or text j 0 → Kept (j + 1)
     text_more p q e = let k : place + (j + 1) ≡ place + j + 1 = omega arith in rw k (sym (behind_turn line text (place + j) j p q e) ∙ kept)
@@ -51,6 +48,8 @@ module _ (line : List ℕ) (place : ℕ) (text : List ℕ) where
     unfolding text_at
     text_other p q e = sym (to_none (length line) (behind text (drop place line)) (sym kept ∙ behind_other line text (place + j) j p q e))
 
-    pub text_end : length text ≤ j → place + j ≤ length line → Some (0, (place + j)) ≡ text_at line place text
+    pub text_end : j ≡ length text → place + j ≤ length line → Some (0, (place + length text)) ≡ text_at line place text
     unfolding text_at
-    text_end p q = sym (to_place line (behind text (drop place line)) 0 (place + j) (sym kept ∙ behind_end line text (place + j) j p) q)
+    text_end e q =
+        ap (λ (k : ℕ). Some (0, (place + k))) (sym e)
+        ∙ sym (to_place line (behind text (drop place line)) 0 (place + j) (sym kept ∙ behind_end line text (place + j) j (omega arith)) q)

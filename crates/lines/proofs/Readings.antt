@@ -21,6 +21,9 @@ module _ (line : List ℕ) where
     k1 : kind_of line ≡ front kind (drop a line)
     k1 = (kind_says line kind a (sym e1)).0
 
+    pub a_within : a ≤ length line
+    a_within = (kind_says line kind a (sym e1)).1
+
     pub line_first : None ≡ number_at line a → None ≡ numbers_of line
     unfolding number_at
     line_first e = sym (no_first line kind (drop a line) k1 (from_none (length line) (read_number (drop a line)) (sym e)))

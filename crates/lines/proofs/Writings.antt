@@ -1,64 +1,70 @@
 -- A line, written: how long it is, when it may be written, and the buffer that four pieces make.
 use mathlib.Core.Path.{◌≡◌, sym, ap, ◌∙◌}
-use mathlib.Core.Bool.{Bool, true, false}
+use mathlib.Core.Bool.{Bool}
 use mathlib.Core.List.{List, ◌++◌, append_assoc}
-use Prim.Native.Nat.{ℕ, ◌+◌, ◌≤◌, ◌<◌}
+use Prim.Native.Nat.{ℕ, ◌+◌, ◌≤◌}
 use native.Mathlib.Omega.{arith}
-use borrow.Author.Tests.{lt-ltb, le-ltb}
+use borrow.Author.Tests.{lt-ltb}
 use lib.ListN.{length, length-append}
 use Rattle.rules.specs.meaning.Number.{digits}
 use Rattle.rules.proofs.laws.line.Numbers.{below, by_test}
 use Rattle.rules.specs.meaning.Lines.{lead, to_name, id_name, has_second, has_id, field, text_of, names_step}
-use Rattle.rules.proofs.laws.line.Lines.{step_says}
-use Rattle.rules.specs.meaning.Refusals.{first_given}
+use Rattle.rules.specs.declared.Refusal.{Refusal}
+use Rattle.rules.specs.declared.Refusal.TheVariants.{BadSizes, Unsound, NoSite, SameSite, NoParcel, NothingToSend, LengthsOut, NoRoom, NoSlot, CountFull, NoStep, InputLong, ShortBuffer, ManyIds, NoOrder, NothingHeard, NoGroup}
+use Rattle.rules.specs.meaning.Refusals.{first_given, number_of}
 use Rattle.rules.specs.meaning.Put.{put}
 use Rattle.rules.proofs.laws.Put.{put_nil, put_put}
 use Rattle.rules.specs.meaning.Writing.{check_of, Filled}
+use Rattle.lines.proofs.Fields.{field_length}
 use Rattle.rules.proofs.laws.line.Writing.{text_whole, text_refused}
 
 pub line_length : (kind first second i : ℕ) → length (text_of kind first second i) ≡ length (lead kind) + length (digits first) + length (field (has_second kind) to_name second) + length (field (has_id kind) id_name i)
 unfolding text_of
 line_length kind first second i = simp length-append (omega arith)
 
+pub ruleset lengths = (line_length, field_length)
+
 -- ---- what may be written
 module _ (kind first second i room : ℕ) where
-  pub check_step : names_step kind second i ≡ false → 11 ≡ check_of kind first second i room
-  unfolding check_of first_given
-  check_step s = rw s
-
-  pub check_room : names_step kind second i ≡ true → room < length (text_of kind first second i) → 13 ≡ check_of kind first second i room
-  unfolding check_of first_given
-  check_room s h = rw (s, lt-ltb room (length (text_of kind first second i)) h)
-
-  pub check_ok : names_step kind second i ≡ true → length (text_of kind first second i) ≤ room → 0 ≡ check_of kind first second i room
-  unfolding check_of first_given
-  check_ok s h = rw (s, le-ltb room (length (text_of kind first second i)) h)
-
-  ready : check_of kind first second i room ≡ 0 → (names_step kind second i ≡ true) × (length (text_of kind first second i) ≤ room)
-  ready h =
-      by_test (names_step kind second i)
-      (λ s.
-      below room (length (text_of kind first second i))
-      (λ l. absurd (let z : ◌≡◌ {A = ℕ} 13 0 = check_room s l ∙ h in omega arith))
-      (λ l. (s, l)))
-      (λ s. absurd (let z : ◌≡◌ {A = ℕ} 11 0 = check_step s ∙ h in omega arith))
-
   -- what the check leaves to be known
-  pub may_lay : (r : ℕ) → r ≡ check_of kind first second i room → r ≡ 0 → (1 ≤ kind) × (kind ≤ 8) × (length (text_of kind first second i) ≤ room)
-  may_lay r e z =
-      let d = ready (sym e ∙ z) in
-      let t = step_says kind second i d.0 in
-      (t.0, t.1, d.1)
+  pub may_lay : 0 ≡ check_of kind first second i room → length (text_of kind first second i) ≤ room
+  unfolding check_of first_given
+  may_lay h =
+      below room (length (text_of kind first second i))
+      (λ l. by_test (names_step kind second i)
+      (λ s. absurd (let z : ◌≡◌ {A = ℕ} 0 13 = h ∙ rw (s, lt-ltb room (length (text_of kind first second i)) l) in omega arith))
+      (λ s. absurd (let z : ◌≡◌ {A = ℕ} 0 11 = h ∙ rw s in omega arith)))
+      (λ l. l)
+
+-- a refusal has a number
+refused_some : (r : Refusal) → number_of r ≡ 0 → ⊥
+refused_some BadSizes e = omega arith
+refused_some Unsound e = omega arith
+refused_some NoSite e = omega arith
+refused_some SameSite e = omega arith
+refused_some NoParcel e = omega arith
+refused_some NothingToSend e = omega arith
+refused_some LengthsOut e = omega arith
+refused_some NoRoom e = omega arith
+refused_some NoSlot e = omega arith
+refused_some CountFull e = omega arith
+refused_some NoStep e = omega arith
+refused_some InputLong e = omega arith
+refused_some ShortBuffer e = omega arith
+refused_some ManyIds e = omega arith
+refused_some NoOrder e = omega arith
+refused_some NothingHeard e = omega arith
+refused_some NoGroup e = omega arith
 
 module _ (kind first second i : ℕ) (out : List ℕ) where
-  pub filled_none : (r : ℕ) → r ≡ check_of kind first second i (length out) → (r ≡ 0 → ⊥) → Filled kind first second i out out 0
-  filled_none r e h =
-      let f = text_refused kind first second i (length out) (λ z. h (e ∙ z)) in
+  pub filled_none : (r : Refusal) → number_of r ≡ check_of kind first second i (length out) → Filled kind first second i out out 0
+  filled_none r e =
+      let f = text_refused kind first second i (length out) (λ z. refused_some r (e ∙ z)) in
       record { count = rw f; bytes = rw f (sym (put_nil out 0)) }
 
-  pub filled_line : (after : List ℕ) (n r : ℕ) → r ≡ check_of kind first second i (length out) → r ≡ 0 → n ≡ length (text_of kind first second i) → after ≡ put out 0 (text_of kind first second i) → Filled kind first second i out after n
-  filled_line after n r e z count bytes =
-      let t = text_whole kind first second i (length out) (sym e ∙ z) in
+  pub filled_line : (after : List ℕ) (n : ℕ) → 0 ≡ check_of kind first second i (length out) → n ≡ length (text_of kind first second i) → after ≡ put out 0 (text_of kind first second i) → Filled kind first second i out after n
+  filled_line after n e count bytes =
+      let t = text_whole kind first second i (length out) (sym e) in
       record { count = rw t count; bytes = rw t bytes }
 
 -- ---- four pieces, one behind the other

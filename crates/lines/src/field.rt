@@ -16,28 +16,26 @@ pub(crate) fn read_field(used: bool, name: &[u8], line: &[u8], place: usize) -> 
     if !used {
         return Some((0, place));
     }
-    let (_, i) = read_text(line, place, name)?;
-    read_number(line, i)
+    let next = read_text(line, place, name)?;
+    read_number(line, next)
 }
 
 // How many bytes the number takes with its name.
 pub(crate) fn field_len(used: bool, n: u64) -> usize
     ensures { (result ≡ cond used (4 + length (digits n)) 0) × (result ≤ 24) }
 {
-    if used {
-        return 4 + places(n);
-    }
-    0
+    if used { 4 + places(n) } else { 0 }
 }
 
 // Writes the number behind its name at a place, and answers the place behind it.
+#[tactic(auto, using(crate::proofs::Fields::fields))]
 pub(crate) fn write_field(out: &mut [u8], place: usize, used: bool, name: &[u8], n: u64) -> usize
     requires { place + length (field used name.now n) ≤ length out.old }
     ensures { (result ≡ place + length (field used name.now n)) × (out.new ≡ put out.old place (field used name.now n)) }
 {
-    if used {
-        let next = write_text(out, place, name);
-        return write_number(out, next, n);
+    if !used {
+        return place;
     }
-    place
+    let next = write_text(out, place, name);
+    write_number(out, next, n)
 }

@@ -1,105 +1,51 @@
 // The eight kinds of step lines: how a line of each begins, and which numbers it has.
-ghost use Rattle.std.specs.Prelude.{◌≡◌, ℕ, ◌≤◌, length, take, get_or};
+ghost use Rattle.std.specs.Prelude.{◌≡◌, ℕ, ◌≤◌, length, get_or};
 ghost use Rattle.rules.specs.meaning.Lines.{lead, has_second, has_id};
 ghost use Rattle.rules.specs.meaning.Places.{kind_at};
 ghost use Rattle.rules.specs.meaning.Put.{put};
 
 use crate::text::{read_text, write_text};
 
-// How many bytes stand before the first number of a line.
-pub(crate) fn lead_len(kind: u64) -> usize
-    requires { (1 ≤ kind) × (kind ≤ 8) }
-    ensures { (result ≡ length (lead kind)) × (result ≤ 18) }
+// What stands before the first number of a line; nothing where there is no such kind.
+#[tactic(auto, unfolding(rules::specs::meaning::Lines::lead))]
+pub(crate) fn lead(kind: u64) -> &'static [u8]
+    ensures { result.now ≡ lead kind }
 {
-    if kind <= 1 {
-        return 14;
+    match kind {
+        1 => b"step=add node=",
+        2 => b"step=remove node=",
+        3 => b"step=query node=",
+        4 => b"step=send from=",
+        5 => b"step=merge from=",
+        6 => b"step=deliver slot=",
+        7 => b"step=again slot=",
+        8 => b"step=lose slot=",
+        _ => b"",
     }
-    if kind <= 2 {
-        return 17;
-    }
-    if kind <= 3 {
-        return 16;
-    }
-    if kind <= 4 {
-        return 15;
-    }
-    if kind <= 5 {
-        return 16;
-    }
-    if kind <= 6 {
-        return 18;
-    }
-    if kind <= 7 {
-        return 16;
-    }
-    15
-}
-
-// Those bytes, and dots behind them that are no part of a line: one array holds the lead of any kind.
-fn lead_text(kind: u64) -> [u8; 18]
-    requires { (1 ≤ kind) × (kind ≤ 8) }
-    ensures { take (length (lead kind)) result ≡ lead kind }
-{
-    if kind <= 1 {
-        return *b"step=add node=....";
-    }
-    if kind <= 2 {
-        return *b"step=remove node=.";
-    }
-    if kind <= 3 {
-        return *b"step=query node=..";
-    }
-    if kind <= 4 {
-        return *b"step=send from=...";
-    }
-    if kind <= 5 {
-        return *b"step=merge from=..";
-    }
-    if kind <= 6 {
-        return *b"step=deliver slot=";
-    }
-    if kind <= 7 {
-        return *b"step=again slot=..";
-    }
-    *b"step=lose slot=..."
 }
 
 // Writes the lead of a kind at the front of a buffer, and answers how many bytes it has.
 pub(crate) fn write_lead(out: &mut [u8], kind: u64) -> usize
-    requires { (1 ≤ kind) × (kind ≤ 8) × (length (lead kind) ≤ length out.old) }
+    requires { length (lead kind) ≤ length out.old }
     ensures { (result ≡ length (lead kind)) × (out.new ≡ put out.old 0 (lead kind)) }
 {
-    let n = lead_len(kind);
-    let text = lead_text(kind);
-    write_text(out, 0, &text[..n])
+    write_text(out, 0, lead(kind))
 }
 
 // The only kind whose lines can have these bytes behind `step=`: the first tells all kinds apart but add and again.
 fn only_kind(a: u8, b: u8) -> u64
     ensures { (1 ≤ result) × (result ≤ 8) × ((k : ℕ) → 1 ≤ k → k ≤ 8 → get_or (lead k) 5 0 ≡ a → get_or (lead k) 6 0 ≡ b → k ≡ result) }
 {
-    if a == b'r' {
-        return 2;
+    match (a, b) {
+        (b'r', _) => 2,
+        (b'q', _) => 3,
+        (b's', _) => 4,
+        (b'm', _) => 5,
+        (b'd', _) => 6,
+        (b'l', _) => 8,
+        (_, b'g') => 7,
+        _ => 1,
     }
-    if a == b'q' {
-        return 3;
-    }
-    if a == b's' {
-        return 4;
-    }
-    if a == b'm' {
-        return 5;
-    }
-    if a == b'd' {
-        return 6;
-    }
-    if a == b'l' {
-        return 8;
-    }
-    if b == b'g' {
-        return 7;
-    }
-    1
 }
 
 // The kind of a line, and the place behind its lead. Two bytes leave one kind, so a line is held to one lead and not to eight.
@@ -110,10 +56,8 @@ pub(crate) fn read_kind(line: &[u8]) -> Option<(u64, usize)>
         return None;
     }
     let kind = only_kind(line[5], line[6]);
-    let n = lead_len(kind);
-    let text = lead_text(kind);
-    let (_, i) = read_text(line, 0, &text[..n])?;
-    Some((kind, i))
+    let next = read_text(line, 0, lead(kind))?;
+    Some((kind, next))
 }
 
 // Whether a line of a kind names a second site: send and merge do.

@@ -1,86 +1,58 @@
-// The step that four numbers name, and the step of a line.
-ghost use Rattle.std.specs.Prelude.{◌≡◌, ◌||◌, eqb, ◌≤◌, get_or};
+// The step that four numbers name, and the step of a line. The four come one by one, as C gives them.
+ghost use Rattle.std.specs.Prelude.{◌≡◌, None, get_or};
 ghost use Rattle.rules.specs.meaning.Lines.{names_step};
-ghost use Rattle.rules.specs.declared.Named.TheVariants.{Is, NoStep};
 ghost use Rattle.rules.specs.meaning.StepLines.{steps, step_for, step_of};
 
 use crate::kind::{has_id, has_second};
 use crate::read::read_line;
 use rules::{Numbers, Step};
 
-// "unused ones 0": whether a number is what it may be.
-fn is_proper(used: bool, n: u64) -> bool
-    ensures { result ≡ (used || eqb n 0) }
-{
-    if used {
-        return true;
-    }
-    n == 0
-}
-
-// Whether four numbers name a step. Any first number does: "Sizes of sites and slots are not judged here."
+// Whether four numbers name a step: "unused ones 0". Any first number does: "Sizes of sites and slots are not judged here."
+#[tactic(auto, unfolding(rules::specs::meaning::Lines::names_step))]
 pub(crate) fn names_step(kind: u64, second: u64, id: u64) -> bool
     ensures { result ≡ names_step kind second id }
 {
-    if kind < 1 {
-        return false;
-    }
-    if kind > 8 {
-        return false;
-    }
-    if !is_proper(has_second(kind), second) {
-        return false;
-    }
-    is_proper(has_id(kind), id)
+    (1..=8).contains(&kind) && (has_second(kind) || second == 0) && (has_id(kind) || id == 0)
 }
 
-// The step of a kind, from the numbers that it uses.
-fn step_of_kind(kind: u64, first: u64, second: u64, id: u64) -> Step
-    requires { (1 ≤ kind) × (kind ≤ 8) }
-    ensures { Is result ≡ get_or (steps first second id) kind NoStep }
+// The step of a kind, from the numbers that it uses; none where there is no such kind.
+fn step_of_kind(kind: u64, first: u64, second: u64, id: u64) -> Option<Step>
+    ensures { result ≡ get_or (steps first second id) kind None }
 {
-    if kind <= 1 {
-        return Step::Add { site: first, id };
-    }
-    if kind <= 2 {
-        return Step::Remove { site: first, id };
-    }
-    if kind <= 3 {
-        return Step::Query { site: first, id };
-    }
-    if kind <= 4 {
-        return Step::Send {
+    let step = match kind {
+        1 => Step::Add { site: first, id },
+        2 => Step::Remove { site: first, id },
+        3 => Step::Query { site: first, id },
+        4 => Step::Send {
             from: first,
             to: second,
             id,
-        };
-    }
-    if kind <= 5 {
-        return Step::Merge {
+        },
+        5 => Step::Merge {
             from: first,
             to: second,
-        };
-    }
-    if kind <= 6 {
-        return Step::Deliver { slot: first };
-    }
-    if kind <= 7 {
-        return Step::Again { slot: first };
-    }
-    Step::Lose { slot: first }
+        },
+        6 => Step::Deliver { slot: first },
+        7 => Step::Again { slot: first },
+        8 => Step::Lose { slot: first },
+        _ => return None,
+    };
+    Some(step)
 }
 
 // The step that four numbers name, or none.
+#[tactic(auto, unfolding(rules::specs::meaning::StepLines::step_for))]
 pub fn step_for(kind: u64, first: u64, second: u64, id: u64) -> Option<Step>
     ensures { result ≡ step_for kind first second id }
 {
     if !names_step(kind, second, id) {
         return None;
     }
-    Some(step_of_kind(kind, first, second, id))
+    step_of_kind(kind, first, second, id)
 }
 
 // The step of a line, or none.
+#[tactic(auto, unfolding(rules::specs::meaning::StepLines::step_of, rules::specs::meaning::StepLines::step_in))]
 pub fn read_step(line: &[u8]) -> Option<Step>
     ensures { result ≡ step_of line.now }
 {

@@ -4,34 +4,34 @@ use native.Mathlib.Omega.{arith}
 use Rattle.lines.proofs.Leads.{told, only}
 use Rattle.lines.proofs.kind.only_kind.Goals as goal
 
-pub returns-then-a-eq114 : goal.returns-then-a-eq114
+pub returns-in-114-default : goal.returns-in-114-default
 unfolding told
-returns-then-a-eq114 c = (omega arith, omega arith, only c.args.a c.args.b 2 (grind (arith, nat_tests)))
+returns-in-114-default c = only c.args.a c.args.b 2 (omega arith) (omega arith) (grind (arith, nat_tests))
 
-pub returns-then-a-eq113 : goal.returns-then-a-eq113
+pub returns-in-113-default : goal.returns-in-113-default
 unfolding told
-returns-then-a-eq113 c = (omega arith, omega arith, only c.args.a c.args.b 3 (grind (arith, nat_tests)))
+returns-in-113-default c = only c.args.a c.args.b 3 (omega arith) (omega arith) (grind (arith, nat_tests))
 
-pub returns-then-a-eq115 : goal.returns-then-a-eq115
+pub returns-in-115-default : goal.returns-in-115-default
 unfolding told
-returns-then-a-eq115 c = (omega arith, omega arith, only c.args.a c.args.b 4 (grind (arith, nat_tests)))
+returns-in-115-default c = only c.args.a c.args.b 4 (omega arith) (omega arith) (grind (arith, nat_tests))
 
-pub returns-then-a-eq109 : goal.returns-then-a-eq109
+pub returns-in-109-default : goal.returns-in-109-default
 unfolding told
-returns-then-a-eq109 c = (omega arith, omega arith, only c.args.a c.args.b 5 (grind (arith, nat_tests)))
+returns-in-109-default c = only c.args.a c.args.b 5 (omega arith) (omega arith) (grind (arith, nat_tests))
 
-pub returns-then-a-eq100 : goal.returns-then-a-eq100
+pub returns-in-100-default : goal.returns-in-100-default
 unfolding told
-returns-then-a-eq100 c = (omega arith, omega arith, only c.args.a c.args.b 6 (grind (arith, nat_tests)))
+returns-in-100-default c = only c.args.a c.args.b 6 (omega arith) (omega arith) (grind (arith, nat_tests))
 
-pub returns-then-a-eq108 : goal.returns-then-a-eq108
+pub returns-in-108-default : goal.returns-in-108-default
 unfolding told
-returns-then-a-eq108 c = (omega arith, omega arith, only c.args.a c.args.b 8 (grind (arith, nat_tests)))
+returns-in-108-default c = only c.args.a c.args.b 8 (omega arith) (omega arith) (grind (arith, nat_tests))
 
-pub returns-then-b-eq103 : goal.returns-then-b-eq103
+pub returns-in_default-eq103 : goal.returns-in_default-eq103
 unfolding told
-returns-then-b-eq103 c = (omega arith, omega arith, only c.args.a c.args.b 7 (grind (arith, nat_tests)))
+returns-in_default-eq103 c = only c.args.a c.args.b 7 (omega arith) (omega arith) (grind (arith, nat_tests))
 
-pub returns : goal.returns
+pub returns-in_default : goal.returns-in_default
 unfolding told
-returns c = (omega arith, omega arith, only c.args.a c.args.b 1 (grind (arith, nat_tests)))
+returns-in_default c = only c.args.a c.args.b 1 (omega arith) (omega arith) (grind (arith, nat_tests))

@@ -1,68 +1,40 @@
--- `lines::number::read_number`: a turn of the loop, and each way out. `whole` says that the loop has read the whole run, and `within` that a loop that
--- moved has not left the line.
+-- `lines::number::read_number`: a turn of the loop, and each way out. `halt` says why the loop stopped.
 use native.Mathlib.Omega.{arith}
-use mathlib.Core.Path.{◌≡◌, sym, ◌∙◌}
-use Prim.Native.Nat.{◌≤◌}
-use lib.ListN.{length, drop}
+use mathlib.Core.Path.{◌≡◌, ◌∙◌}
+use Prim.Native.Nat.{◌+◌}
+use lib.ListN.{drop}
+use Rattle.std.specs.Prelude.{◌&&◌, leb}
+use Rattle.std.proofs.lemmas.Bool.Decides.{nat_tests}
+use Rattle.std.proofs.lemmas.Grind.{common_steps}
 use Rattle.rules.specs.meaning.Text.{front}
-use Rattle.rules.specs.meaning.Number.{digit_run}
-use Rattle.rules.proofs.laws.line.Numbers.{below}
-use Rattle.lines.proofs.Digits.{digit_says, other_says, run_more, run_end, run_other, refuse_over, refuse_empty, refuse_long, accept}
+use Rattle.rules.specs.meaning.Number.{digit_run, most_digits}
+use Rattle.lines.proofs.Digits.{part_byte, run_more, refuse_over, halt_other, halt_end, run_judged}
 use Rattle.lines.proofs.number.read_number.Goals as goal
-use Rattle.lines.proofs.number.read_number.Goals.{else-loop-i-test, then-loop-i-test+then-not-is_digit}
+use Rattle.lines.proofs.number.read_number.Goals.{else-loop-c-test, then-loop-c-test+then-not-is_ascii_digit}
 
-pub overflow_sub-d : goal.overflow_sub-d
-overflow_sub-d c = (digit_says _ _ c.is_digit.ensures c.if-not-is_digit.false).0
+pub returns-in_err-checked_mul : goal.returns-in_err-checked_mul
+returns-in_err-checked_mul c = let l = c.loop-c in
+    c.from_residual.ensures
+    ∙ refuse_over _ _ l.v l.c-index (omega arith) _ (part_byte _ c.args.place _ (omega arith)) _ c.is_ascii_digit.ensures.value l.invariant.kept c.if-not-is_ascii_digit.false (omega arith)
 
-pub returns-then-v-gt1844674407370955161 : goal.returns-then-v-gt1844674407370955161
-returns-then-v-gt1844674407370955161 c =
-    let d = digit_says _ _ c.is_digit.ensures c.if-not-is_digit.false in
-    refuse_over _ _ _ _ _ c.loop-i-test.true d.2 (omega (arith, d.2, d.3)) c.loop-i.invariant.3 (omega arith)
+pub returns-in_err-v : goal.returns-in_err-v
+returns-in_err-v c = let l = c.loop-c in
+    c.from_residual-in_err-v.ensures
+    ∙ refuse_over _ _ l.v l.c-index (omega arith) _ (part_byte _ c.args.place _ (omega arith)) _ c.is_ascii_digit.ensures.value l.invariant.kept c.if-not-is_ascii_digit.false (omega arith)
 
-pub returns-then-d-t : goal.returns-then-d-t
-returns-then-d-t c =
-    let d = digit_says _ _ c.is_digit.ensures c.if-not-is_digit.false in
-    refuse_over _ _ _ _ _ c.loop-i-test.true d.2 (omega (arith, d.2, d.3)) c.loop-i.invariant.3 (omega arith)
-
-pub loop-i-preserved : goal.loop-i-preserved
-loop-i-preserved c =
-    let d = digit_says _ _ c.is_digit.ensures c.if-not-is_digit.false in (
-      omega arith,
-      omega arith,
-      omega arith,
-      run_more _ c.args.place _ _ _ c.loop-i-test.true d.2 (omega (arith, d.2, d.3)) c.loop-i.invariant.3,
-    )
-
-pub returns-then-i-place : goal.returns-then-i-place
-returns-then-i-place c =
-    let halt : digit_run c.loop-i.v (drop c.loop-i.i c.args.line.now) ≡ front c.loop-i.v (drop c.loop-i.i c.args.line.now) =
-    elim c.loop-i-test.branch [
-      | else-loop-i-test w ↦ run_end _ _ _ w.loop-i-test.false
-      | then-loop-i-test+then-not-is_digit w ↦ run_other _ _ _ w.loop-i-test.true (other_says _ _ w.is_digit.ensures w.if-not-is_digit.true)
-    ] in
-    let whole = sym c.loop-i.invariant.3 ∙ halt in
-    refuse_empty _ _ _ c.loop-i.i whole c.if-i-place.true
-
-pub returns-then-i-place-gt-MOST_DIGITS : goal.returns-then-i-place-gt-MOST_DIGITS
-returns-then-i-place-gt-MOST_DIGITS c =
-    let halt : digit_run c.loop-i.v (drop c.loop-i.i c.args.line.now) ≡ front c.loop-i.v (drop c.loop-i.i c.args.line.now) =
-    elim c.loop-i-test.branch [
-      | else-loop-i-test w ↦ run_end _ _ _ w.loop-i-test.false
-      | then-loop-i-test+then-not-is_digit w ↦ run_other _ _ _ w.loop-i-test.true (other_says _ _ w.is_digit.ensures w.if-not-is_digit.true)
-    ] in
-    let whole = sym c.loop-i.invariant.3 ∙ halt in
-    let within : c.loop-i.i ≤ length c.args.line.now =
-    below c.args.place c.loop-i.i (λ h. omega arith) (λ h. absurd (c.if-i-place.false (omega arith))) in
-    refuse_long _ _ _ c.loop-i.i c.loop-i.invariant.0 within whole c.if-i-place-gt-MOST_DIGITS.true
+pub loop-c-preserved : goal.loop-c-preserved
+loop-c-preserved c = let l = c.loop-c in
+    let r = run_more _ _ l.v l.c-index (omega arith) _ (part_byte _ c.args.place _ (omega arith)) _ c.is_ascii_digit.ensures.value l.invariant.kept c.if-not-is_ascii_digit.false in
+    let v = c.in_ok-v.ensures in
+    let t = c.in_ok-checked_mul.ensures in
+    record { counted = omega arith; fits = omega (arith, v.0, v.1); kept = rw (v.1, t.1) r }
 
 pub returns : goal.returns
-returns c =
-    let halt : digit_run c.loop-i.v (drop c.loop-i.i c.args.line.now) ≡ front c.loop-i.v (drop c.loop-i.i c.args.line.now) =
-    elim c.loop-i-test.branch [
-      | else-loop-i-test w ↦ run_end _ _ _ w.loop-i-test.false
-      | then-loop-i-test+then-not-is_digit w ↦ run_other _ _ _ w.loop-i-test.true (other_says _ _ w.is_digit.ensures w.if-not-is_digit.true)
+returns c = let l = c.loop-c in
+    let tests : c.contains.result ≡ (leb 1 l.count && leb l.count most_digits) = grind (arith, common_steps, nat_tests) in
+    let halt : digit_run l.v (drop (c.args.place + l.c-index) c.args.line.now) ≡ front l.v (drop (c.args.place + l.c-index) c.args.line.now) =
+    elim c.loop-c-test.branch [
+      | else-loop-c-test w ↦ halt_end c.args.line.now c.args.place l.v l.c-index (omega arith)
+      | then-loop-c-test+then-not-is_ascii_digit w ↦ halt_other c.args.line.now c.args.place l.v l.c-index (omega arith) _ (part_byte _ c.args.place _ (omega arith)) _ w.is_ascii_digit.ensures.value w.if-not-is_ascii_digit.true
     ] in
-    let whole = sym c.loop-i.invariant.3 ∙ halt in
-    let within : c.loop-i.i ≤ length c.args.line.now =
-    below c.args.place c.loop-i.i (λ h. omega arith) (λ h. absurd (c.if-i-place.false (omega arith))) in
-    accept _ _ _ _ (omega arith) within whole c.if-i-place-gt-MOST_DIGITS.false c.loop-i.invariant.2
+    c.then_some.ensures ∙ rw tests (run_judged c.args.line.now c.args.place l.v l.c-index l.invariant.kept halt (omega arith) (omega arith) l.count l.invariant.counted)

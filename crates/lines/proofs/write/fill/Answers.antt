@@ -2,12 +2,11 @@
 use Rattle.lines.proofs.Writings.{may_lay, filled_none, filled_line}
 use Rattle.lines.proofs.write.fill.Goals as goal
 
-pub returns-then-check_line-ne0 : goal.returns-then-check_line-ne0
-returns-then-check_line-ne0 c = filled_none _ _ _ _ _ _ c.check_line.ensures c.if-check_line-ne0.true
-
 pub lay-requires : goal.lay-requires
-lay-requires c = may_lay _ _ _ _ _ _ c.check_line.ensures c.if-check_line-ne0.false
+lay-requires c = may_lay _ _ _ _ _ c.in-Ok.ensures
 
-pub returns : goal.returns
-returns c = let w = c.lay in
-    filled_line _ _ _ _ _ _ _ _ c.check_line.ensures c.if-check_line-ne0.false w.ensures.0 w.ensures.1
+pub returns-in-Ok : goal.returns-in-Ok
+returns-in-Ok c = filled_line _ _ _ _ _ _ _ c.in-Ok.ensures c.lay.ensures.0 c.lay.ensures.1
+
+pub returns-in-Err : goal.returns-in-Err
+returns-in-Err c = filled_none _ _ _ _ _ _ c.in-Err.ensures

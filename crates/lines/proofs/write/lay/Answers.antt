@@ -8,50 +8,6 @@ use Rattle.lines.proofs.Fields.{used_length}
 use Rattle.lines.proofs.Writings.{line_length, put_four, four_line}
 use Rattle.lines.proofs.write.lay.Goals as goal
 
-pub write_lead-a-requires : goal.write_lead-a-requires
-write_lead-a-requires c = let s = c.args in
-    let p = c.requires in
-    (p.0, p.1, omega (arith, p.2, line_length s.kind s.first s.second s.id))
-
-pub write_number-b-requires : goal.write_number-b-requires
-write_number-b-requires c = let s = c.args in
-    omega (
-      arith,
-      c.requires.2,
-      line_length s.kind s.first s.second s.id,
-      c.write_lead-a.ensures.0,
-      c.write_lead-a.auto.out,
-    )
-
-pub write_field-d-requires : goal.write_field-d-requires
-write_field-d-requires c = let s = c.args in
-    omega (
-      arith,
-      c.requires.2,
-      line_length s.kind s.first s.second s.id,
-      c.write_lead-a.ensures.0,
-      c.write_lead-a.auto.out,
-      c.write_number-b.ensures.0,
-      c.write_number-b.auto.out,
-      used_length to_name s.second c.has_second.ensures,
-    )
-
-pub write_field-requires : goal.write_field-requires
-write_field-requires c = let s = c.args in
-    omega (
-      arith,
-      c.requires.2,
-      line_length s.kind s.first s.second s.id,
-      c.write_lead-a.ensures.0,
-      c.write_lead-a.auto.out,
-      c.write_number-b.ensures.0,
-      c.write_number-b.auto.out,
-      used_length to_name s.second c.has_second.ensures,
-      c.write_field-d.ensures.0,
-      c.write_field-d.auto.out,
-      used_length id_name s.id c.has_id.ensures,
-    )
-
 pub returns : goal.returns
 returns c = let s = c.args in
     let l = c.write_lead-a in
@@ -66,7 +22,7 @@ returns c = let s = c.args in
     let third = used_length id_name s.id w.ensures in (
       omega (arith, total, second, third, l.ensures.0, n.ensures.0, f.ensures.0, g.ensures.0),
       put_four s.out.now (lead s.kind) (digits s.first) (field u.result to_name s.second) (field w.result id_name s.id) _ _ _ _ _ _ _
-          (omega (arith, c.requires.2, total, second, third))
+          (omega (arith, c.requires, total, second, third))
           l.ensures.1 l.ensures.0 n.ensures.1 n.ensures.0 f.ensures.1 f.ensures.0 g.ensures.1
           ∙ ap (put s.out.now 0) whole,
     )
