@@ -10,13 +10,10 @@ use links::{lag_of, lag_refusal};
 use rules::{Lag, Run, Scan, Seen};
 
 // A refused query: its number, and no lag.
-fn no_lag(number: u32) -> Lag
-    ensures { result ≡ refused_lag number }
+fn no_lag(refusal: u32) -> Lag
+    ensures { result ≡ refused_lag refusal }
 {
-    Lag {
-        refusal: number,
-        lag: 0,
-    }
+    Lag { refusal, lag: 0 }
 }
 
 // 1 or 2, then what the query itself is refused for, else the lag.
@@ -39,6 +36,8 @@ pub(crate) fn lag_seen(
     if own != 0 {
         return no_lag(own);
     }
-    let lag = lag_of(books.pair);
-    Lag { refusal: 0, lag }
+    Lag {
+        refusal: 0,
+        lag: lag_of(books.pair),
+    }
 }

@@ -33,14 +33,10 @@ pub fn act(
     requires { Clear refused low run (lent words.old slots.old ledger.old) }
     ensures { Acted refused run (lent words.old slots.old ledger.old) step result (lent words.new slots.new ledger.new) }
 {
-    let n = slots.len();
-    let at = slot_of(step);
-    let held = read_slot(slots, at);
-    let wanted = needs_slot(step);
-    let free = lowest_free(slots, wanted, low);
-    let link = link_of(step, held, run.sites);
-    let books = see(ledger, NO_SITES, link);
-    let v = decide(words, run, free, held, n, books, step, refused);
+    let held = read_slot(slots, slot_of(step));
+    let free = lowest_free(slots, needs_slot(step), low);
+    let books = see(ledger, NO_SITES, link_of(step, held, run.sites));
+    let v = decide(words, run, free, held, slots.len(), books, step, refused);
     book(ledger, v.counter, v.link, v.pair);
     store_slot(slots, v.at, v.parcel);
     Answer {
@@ -59,11 +55,9 @@ pub fn step(
 ) -> Answer
     ensures { Stepped run (lent words.old slots.old ledger.old) step result (lent words.new slots.new ledger.new) }
 {
-    let n = slots.len();
-    let sites = run.sites;
-    let scan = scan_slots(slots, sites);
-    let books = see(ledger, sites, NO_LINK);
-    let judged = judge_seen(words, run, scan, n, books);
+    let scan = scan_slots(slots, run.sites);
+    let books = see(ledger, run.sites, NO_LINK);
+    let judged = judge_seen(words, run, scan, slots.len(), books);
     act(words, slots, ledger, run, step, judged, scan.free)
 }
 
@@ -77,9 +71,8 @@ pub fn fresh(
 ) -> u32
     ensures { Freshened run first (lent words.old slots.old ledger.old) result (lent words.new slots.new ledger.new) }
 {
-    let n = slots.len();
-    let refusal = clear_words(words, run, n);
-    let count = slots_to_clear(refusal, n);
+    let refusal = clear_words(words, run, slots.len());
+    let count = slots_to_clear(refusal, slots.len());
     clear_slots(slots, count);
     start(ledger, refusal == 0, run.sites, first);
     refusal
@@ -89,10 +82,7 @@ pub fn fresh(
 pub fn lag(words: &[u64], slots: &[Parcel], ledger: &Ledger, run: Run, from: u64, to: u64) -> Lag
     ensures { result ≡ lag_answer run (lent words.now slots.now ledger.now) from to }
 {
-    let n = slots.len();
-    let sites = run.sites;
-    let scan = scan_slots(slots, sites);
-    let link = link_between(sites, from, to);
-    let books = see(ledger, sites, link);
-    lag_seen(words, run, scan, n, books, from, to)
+    let scan = scan_slots(slots, run.sites);
+    let books = see(ledger, run.sites, link_between(run.sites, from, to));
+    lag_seen(words, run, scan, slots.len(), books, from, to)
 }

@@ -5,7 +5,7 @@ use mathlib.Core.Path.{◌≡◌, refl}
 use mathlib.Core.Logic.{◌⊎◌, inl, inr}
 use mathlib.Core.List.{List}
 use lib.ListN.{length}
-use borrow.Author.Tests.{le-leb, lt-leb, eq-eqb, ne_eqb}
+use borrow.Author.Tests.{lt-leb, ne_eqb}
 use Rattle.rules.specs.declared.Run.{Run}
 use Rattle.rules.specs.declared.Sight.{Sight}
 use Rattle.rules.specs.declared.Step.TheVariants.{Merge}
@@ -41,32 +41,17 @@ sites_apart run ws ready f t from_in to_in other to from wide et ef ew =
     go (same e) = absurd (other e)
     go (above l) = inr (part_fits t f (width run) l)
 
-module _ (run : Run) (ws : List ℕ) (si : Sight) (f t : ℕ) where
-  pub merge_from : run.sites ≤ f → step_refusal run ws si (Merge f t) ≡ 3
-  unfolding step_refusal first_given effect
-  merge_from h = rw (le-leb run.sites f h)
+module _ (run : Run) (ws : List ℕ) (si : Sight) (f t : ℕ) (from_in : f < run.sites) (to_in : t < run.sites) (other : f ≡ t → ⊥) where
+  refusal : step_refusal run ws si (Merge f t) ≡ merge_refusal (table_at run ws t) (table_at run ws f)
+  unfolding step_refusal first_given merge_refusal effect
+  refusal = rw (lt-leb run.sites f from_in, lt-leb run.sites t to_in, ne_eqb f t other)
 
-  module _ (from_in : f < run.sites) where
-    pub merge_to : run.sites ≤ t → step_refusal run ws si (Merge f t) ≡ 3
-    unfolding step_refusal first_given effect
-    merge_to h = rw (lt-leb run.sites f from_in, le-leb run.sites t h)
-
-    module _ (to_in : t < run.sites) where
-      pub merge_same : f ≡ t → step_refusal run ws si (Merge f t) ≡ 4
-      unfolding step_refusal first_given effect
-      merge_same q = rw (lt-leb run.sites f from_in, lt-leb run.sites t to_in, eq-eqb f t q)
-
-      module _ (other : f ≡ t → ⊥) where
-        refusal : step_refusal run ws si (Merge f t) ≡ merge_refusal (table_at run ws t) (table_at run ws f)
-        unfolding step_refusal first_given merge_refusal effect
-        refusal = rw (lt-leb run.sites f from_in, lt-leb run.sites t to_in, ne_eqb f t other)
-
-        pub merge_step : (table_verdict (merge_answer (table_at run ws t) (table_at run ws f)) si.count ≡ step_verdict run ws si (Merge f t))
-            × (with_table run ws t (merge_table (table_at run ws t) (table_at run ws f)) ≡ step_words run ws si (Merge f t))
-        unfolding merge_answer merge_table effect
-        merge_step =
-            let v = rises (table_at run ws t) (table_at run ws f) in
-            let u = merged (table_at run ws t) (table_at run ws f) in (
-              table_verdict_law run ws si (Merge f t) t _ v u refusal refl refl,
-              table_words run ws si (Merge f t) t _ v u refusal refl refl refl,
-            )
+  pub merge_step : (table_verdict (merge_answer (table_at run ws t) (table_at run ws f)) si.count ≡ step_verdict run ws si (Merge f t))
+      × (with_table run ws t (merge_table (table_at run ws t) (table_at run ws f)) ≡ step_words run ws si (Merge f t))
+  unfolding merge_answer merge_table effect
+  merge_step =
+      let v = rises (table_at run ws t) (table_at run ws f) in
+      let u = merged (table_at run ws t) (table_at run ws f) in (
+        table_verdict_law run ws si (Merge f t) t _ v u refusal refl refl,
+        table_words run ws si (Merge f t) t _ v u refusal refl refl refl,
+      )

@@ -3,7 +3,9 @@
 use Prim.Native.Nat.{ℕ, zero, suc, ◌+◌, ◌*◌, ◌-◌, ◌≤◌, ◌<◌}
 use native.Mathlib.Omega.{arith}
 use mathlib.Core.Path.{◌≡◌, refl, ap, ◌∙◌}
-use mathlib.Core.List.{List, ◌++◌}
+use mathlib.Core.Bool.{Bool, true, false, ◌||◌}
+use mathlib.Core.List.{List, ◌∷◌, ◌++◌}
+use lib.Dec.{eqb}
 use lib.ListN.{length, take, drop}
 use lib.Seq.{length-take-le}
 use lib.ListN.{length-drop}
@@ -13,25 +15,11 @@ use Rattle.rules.specs.declared.Step.{Step}
 use Rattle.rules.specs.meaning.Lengths.{M}
 use Rattle.rules.specs.meaning.Table.{SoundTable}
 use Rattle.rules.specs.meaning.Operations.{answer, unless_refused}
-use Rattle.rules.specs.meaning.Parcels.{no_parcel}
-use Rattle.rules.specs.meaning.Links.{no_link, no_pair}
-use Rattle.rules.specs.meaning.Ledgers.{no_counter}
 use Rattle.rules.specs.meaning.States.{width, table_at, with_table}
-use Rattle.rules.specs.meaning.Steps.{no_post, effect}
+use Rattle.rules.specs.meaning.Refusals.{Test, first_given, ◌when◌}
+use Rattle.rules.specs.meaning.Steps.{no_post, outside, effect}
 use Rattle.rules.proofs.laws.run.Sites.{part_fits, tables_at, with_own}
-use Rattle.steps.specs.Verdicts.{Ready, verdict, table_verdict, step_refusal, step_verdict, step_words}
-
-module _ (run : Run) (ws : List ℕ) (ready : Ready run ws) (k : ℕ) (inside : k < run.sites) where
-  pub part_end : k * width run + width run ≤ length ws
-  part_end = omega (arith, part_fits k run.sites (width run) inside, ready.sized.long)
-
-  pub site_sound : SoundTable (table_at run ws k)
-  unfolding table_at
-  site_sound = tables_at M (width run) run.sites ws ready.tables k inside
-
-  pub site_length : length (table_at run ws k) ≡ width run
-  unfolding table_at
-  site_length = length-take-le (width run) (drop (k * width run) ws) (simp length-drop (omega (arith, part_end)))
+use Rattle.steps.specs.Verdicts.{Ready, verdict, refused_verdict, table_verdict, sites_tests, step_refusal, step_verdict, step_words}
 
 -- the part from a word up to a word is the site's table, and what is put there is the site's table
 module _ (run : Run) (ws : List ℕ) (k from to : ℕ) (at : from ≡ k * width run) (end : to ≡ k * width run + width run) where
@@ -54,6 +42,22 @@ module _ (run : Run) (ws : List ℕ) (k from to : ℕ) (at : from ≡ k * width 
       → take from ws ++ (t ++ drop (to - from) (drop from ws)) ≡ with_table run ws k (f (table_at run ws k))
   put_of f {t} e = put_is t ∙ ap (with_table run ws k) (told_of f e)
 
+module _ (run : Run) (ws : List ℕ) (ready : Ready run ws) (k : ℕ) (inside : k < run.sites) where
+  pub part_end : k * width run + width run ≤ length ws
+  part_end = omega (arith, part_fits k run.sites (width run) inside, ready.sized.long)
+
+  pub site_sound : SoundTable (table_at run ws k)
+  unfolding table_at
+  site_sound = tables_at M (width run) run.sites ws ready.tables k inside
+
+  pub site_length : length (table_at run ws k) ≡ width run
+  unfolding table_at
+  site_length = length-take-le (width run) (drop (k * width run) ws) (simp length-drop (omega (arith, part_end)))
+
+  -- so is the part from its first word up to the word after its last
+  pub part_sound : (from to : ℕ) → from ≡ k * width run → to ≡ k * width run + width run → SoundTable (take (to - from) (drop from ws))
+  part_sound from to at end = rw (part_is run ws k from to at end) site_sound
+
 -- ---- a verdict that is a table's answer
 verdict_table : (r v : ℕ) (si : Sight) → table_verdict (answer r v) si.count ≡ verdict r v (no_post si) si.count
 verdict_table zero v si = refl
@@ -74,9 +78,17 @@ module _ (run : Run) (ws : List ℕ) (si : Sight) (step : Step) (k r v : ℕ) (u
   table_words words = rw (refusal, words) (kept r run ws k u)
 
 -- a step that is refused by its own tests
-module _ (run : Run) (ws : List ℕ) (si : Sight) (step : Step) (r : ℕ) (refusal : step_refusal run ws si step ≡ suc r) where
-  pub refused_verdict_law : record { refusal = suc r; value = 0; counter = no_counter; at = si.count; parcel = no_parcel; link = no_link; pair = no_pair } ≡ step_verdict run ws si step
-  refused_verdict_law = rw refusal
+module _ (run : Run) (ws : List ℕ) (si : Sight) (step : Step) where
+  pub refused_law : (r : ℕ) → step_refusal run ws si step ≡ suc r → (refused_verdict (suc r) si.count ≡ step_verdict run ws si step) × (ws ≡ step_words run ws si step)
+  refused_law r refusal = rw refusal (refl, refl)
 
-  pub refused_words : ws ≡ step_words run ws si step
-  refused_words = rw refusal
+  -- 3 or 4, where these are its first tests
+  pub sites_refused : (f t : ℕ) (ts : List Test) → (effect run ws si step).tests ≡ (3 when (outside run f || outside run t)) ∷ (4 when eqb f t) ∷ ts
+      → (r : ℕ) → 0 < r → r ≡ first_given (sites_tests run f t) → (refused_verdict r si.count ≡ step_verdict run ws si step) × (ws ≡ step_words run ws si step)
+  unfolding step_refusal first_given
+  sites_refused f t ts own r some h = go (outside run f || outside run t) refl (eqb f t) refl
+    where
+      go : (a : Bool) → (outside run f || outside run t) ≡ a → (b : Bool) → eqb f t ≡ b → (refused_verdict r si.count ≡ step_verdict run ws si step) × (ws ≡ step_words run ws si step)
+      go true p b q = let e : r ≡ 3 = rw p at h in rw e (refused_law 2 (rw (own, p) refl))
+      go false p true q = let e : r ≡ 4 = rw (p, q) at h in rw e (refused_law 3 (rw (own, p, q) refl))
+      go false p false q = let e : r ≡ 0 = rw (p, q) at h in absurd (omega (arith, e, some))

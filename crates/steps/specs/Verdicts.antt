@@ -1,6 +1,6 @@
 -- A step's outcome by value: what the functions of this crate compute from the words and from what the step sees besides them.
 -- Assumes nothing.
-use Rattle.std.specs.Prelude.{ℕ, zero, suc, ◌≡◌, true, List, [], ◌∷◌, length, eqb}
+use Rattle.std.specs.Prelude.{ℕ, zero, suc, ◌≡◌, true, List, [], ◌∷◌, length, eqb, ◌||◌}
 use Rattle.rules.specs.declared.Answer.{Answer}
 use Rattle.rules.specs.declared.Run.{Run}
 use Rattle.rules.specs.declared.Parcel.{Parcel}
@@ -13,9 +13,9 @@ use Rattle.rules.specs.meaning.Operations.{unless_refused}
 use Rattle.rules.specs.meaning.Parcels.{no_parcel}
 use Rattle.rules.specs.meaning.Links.{no_link, no_pair}
 use Rattle.rules.specs.meaning.Ledgers.{no_counter, absorbed_counter}
-use Rattle.rules.specs.meaning.Refusals.{first_given, ◌when◌}
+use Rattle.rules.specs.meaning.Refusals.{Test, first_given, ◌when◌}
 use Rattle.rules.specs.meaning.States.{width, tables_sound}
-use Rattle.rules.specs.meaning.Steps.{Post, puts, frees, no_free_slot, effect}
+use Rattle.rules.specs.meaning.Steps.{Post, puts, frees, no_free_slot, outside, effect}
 use Rattle.judge.specs.Judged.{seen_as, Sized}
 use Rattle.steps.specs.declared.verdict.Verdict.{Verdict}
 
@@ -39,6 +39,10 @@ posted si p counter counted link pair =
 -- an update that was taken to its site's table: the slot is freed, the update counted and its serial heard where the table took it
 abbrev pub delivered : Answer → ℕ → ℕ → ℕ → Pair → Verdict
 delivered a slot count link pair = verdict a.refusal a.value (frees slot absorbed_counter link pair) count
+
+-- the tests of a step from one site to another, before its others
+abbrev pub sites_tests : Run → ℕ → ℕ → List Test
+sites_tests run f t = (3 when (outside run f || outside run t)) ∷ (4 when eqb f t) ∷ []
 
 -- ---- once the state is judged
 unfoldable pub step_refusal : Run → List ℕ → Sight → Step → ℕ

@@ -5,28 +5,26 @@ ghost use Rattle.steps.specs.Verdicts.{Ready, delivered, step_verdict, step_word
 
 use crate::places::part_of;
 use crate::posts::is_there;
-use crate::verdict::{Verdict, refuse};
+use crate::verdict::{Verdict, refuse, refuse_by, tell};
 use links::{heard_pair, incomparable};
-use parcels::no_parcel;
-use rules::{Answer, M, Pair, Run, Sight};
+use rules::{Answer, M, Pair, Refusal, Run, Sight};
 
 // What the table answered, with the slot freed, the update counted and its serial heard. It counts even if the length did not rise.
-fn settle(answer: Answer, seen: Sight, slot: u64, link: usize, pair: Pair) -> Verdict
-    ensures { result ≡ delivered answer slot seen.count link pair }
+#[tactic(auto, using(crate::proofs::Delivering::settle_taken, crate::proofs::Delivering::settle_refused))]
+fn settle(answer: Answer, seen: Sight, slot: u64, pair: Pair) -> Verdict
+    ensures { result ≡ delivered answer slot seen.count seen.books.link pair }
 {
     if answer.refusal == 0 {
-        let none = no_parcel();
-        return Verdict {
-            refusal: 0,
-            value: answer.value,
+        Verdict {
             counter: 3,
             at: slot as usize,
-            parcel: none,
-            link,
+            link: seen.books.link,
             pair,
-        };
+            ..tell(answer.value, seen)
+        }
+    } else {
+        refuse_by(answer.refusal, seen)
     }
-    refuse(answer.refusal, seen)
 }
 
 // Where the counter is at the largest nothing may be written, and lack of room is still the first thing to tell.
@@ -35,25 +33,20 @@ pub(crate) fn on_deliver(words: &mut [u64], run: Run, seen: Sight, slot: u64) ->
     ensures value { result ≡ step_verdict run words.old seen (Deliver slot) }
     ensures words_after { words.new ≡ step_words run words.old seen (Deliver slot) }
 {
-    if is_there(run, seen, slot) {
-        let named = seen.named;
-        let books = seen.books;
-        if incomparable(named.serial, books.pair) {
-            return refuse(15, seen);
-        }
-        let part = part_of(run, named.site);
-        let from = part.from;
-        let to = part.to;
-        let counts = books.counts;
-        if counts.absorbed == M {
-            if table::lacks_room(&words[from..to], named.id, named.length) {
-                return refuse(8, seen);
-            }
-            return refuse(10, seen);
-        }
-        let answer = table::absorb(&mut words[from..to], named.id, named.length);
-        let heard = heard_pair(named.serial, books.pair);
-        return settle(answer, seen, slot, books.link, heard);
+    let Sight { named, books, .. } = seen;
+    if !is_there(run, seen, slot) {
+        return refuse(Refusal::NoParcel, seen);
     }
-    refuse(5, seen)
+    if incomparable(named.serial, books.pair) {
+        return refuse(Refusal::NoOrder, seen);
+    }
+    let part = part_of(run, named.site);
+    if books.counts.absorbed == M {
+        if table::lacks_room(&words[part], named.id, named.length) {
+            return refuse(Refusal::NoRoom, seen);
+        }
+        return refuse(Refusal::CountFull, seen);
+    }
+    let answer = table::absorb(&mut words[part], named.id, named.length);
+    settle(answer, seen, slot, heard_pair(named.serial, books.pair))
 }

@@ -15,5 +15,5 @@ mod verdict;
 pub use deciding::decide;
 pub use looks::{link_of, needs_slot, slot_of};
 pub use low::low_after;
-pub use places::{Part, part_of};
+pub use places::part_of;
 pub use verdict::Verdict;

@@ -2,30 +2,22 @@
 ghost use Rattle.std.specs.Prelude.{◌≡◌};
 ghost use Rattle.rules.specs.meaning.Acts.{low_taken, low_after};
 
-use parcels::smaller;
 use rules::{Answer, Step};
 
 // A new parcel took the lowest free slot, whose number is the answer; a parcel that left freed its own.
+#[tactic(auto, unfolding(rules::specs::meaning::Acts::low_taken, rules::specs::meaning::Kinds::slot_of, rules::specs::meaning::Kinds::numbers))]
 fn low_taken(low: usize, step: Step, value: u64) -> usize
     ensures { result ≡ low_taken low step value }
 {
     match step {
-        Step::Add { site: _, id: _ } => low,
-        Step::Remove { site: _, id: _ } => low,
-        Step::Query { site: _, id: _ } => low,
-        Step::Send {
-            from: _,
-            to: _,
-            id: _,
-        } => value as usize,
-        Step::Merge { from: _, to: _ } => low,
-        Step::Deliver { slot } => smaller(low, slot as usize),
-        Step::Again { slot: _ } => value as usize,
-        Step::Lose { slot } => smaller(low, slot as usize),
+        Step::Send { .. } | Step::Again { .. } => value as usize,
+        Step::Deliver { slot } | Step::Lose { slot } => low.min(slot as usize),
+        _ => low,
     }
 }
 
 // What the next step may be told, from what this one was told and answered.
+#[tactic(auto, unfolding(rules::specs::meaning::Acts::low_after))]
 pub fn low_after(low: usize, step: Step, answer: Answer) -> usize
     ensures { result ≡ low_after low step answer }
 {

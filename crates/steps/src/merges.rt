@@ -3,7 +3,7 @@ ghost use Rattle.std.specs.Prelude.{◌≡◌};
 ghost use Rattle.rules.specs.declared.Step.TheVariants.{Merge};
 ghost use Rattle.steps.specs.Verdicts.{Ready, step_verdict, step_words};
 
-use crate::places::part_of;
+use crate::places::{part_of, two_sites};
 use crate::verdict::{Verdict, hand_on, refuse};
 use rules::{Run, Sight};
 
@@ -13,18 +13,12 @@ pub(crate) fn on_merge(words: &mut [u64], run: Run, seen: Sight, from: u64, to: 
     ensures value { result ≡ step_verdict run words.old seen (Merge from to) }
     ensures words_after { words.new ≡ step_words run words.old seen (Merge from to) }
 {
-    if run.sites <= from {
-        return refuse(3, seen);
-    }
-    if run.sites <= to {
-        return refuse(3, seen);
-    }
-    if from == to {
-        return refuse(4, seen);
+    if let Err(refusal) = two_sites(run, from, to) {
+        return refuse(refusal, seen);
     }
     let source = part_of(run, from);
     let target = part_of(run, to);
-    let wide = target.to - target.from;
-    let answer = merging::merge_within(words, target.from, source.from, wide);
+    let wide = target.end - target.start;
+    let answer = merging::merge_within(words, target.start, source.start, wide);
     hand_on(answer, seen)
 }

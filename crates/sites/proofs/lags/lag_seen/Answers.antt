@@ -17,22 +17,17 @@ given z = record { refusal = 0; lag = z }
 
 pub returns-then-judged-ne0 : goal.returns-then-judged-ne0
 returns-then-judged-ne0 c =
-    let j = c in
     let a = c.args in
-    c.no_lag.ensures ∙ ap refused_lag j.judge_seen-judged.ensures ∙ judged_out a.run a.words.now ((let a = c.args in seen_as a.scan no_parcel a.slots a.books)) a.from a.to (λ z. c.if-judged-ne0.true (j.judge_seen-judged.ensures ∙ z))
+    c.no_lag.ensures ∙ ap refused_lag c.judge_seen-judged.ensures ∙ judged_out a.run a.words.now (seen_as a.scan no_parcel a.slots a.books) a.from a.to (λ z. c.if-judged-ne0.true (c.judge_seen-judged.ensures ∙ z))
 
 pub returns-then-own-ne0 : goal.returns-then-own-ne0
 returns-then-own-ne0 c =
-    let o = c in
-    let j = o in
     let a = c.args in
-    c.no_lag-then-own-ne0.ensures ∙ ap refused_lag o.lag_refusal-own.ensures
-    ∙ own_out a.run a.words.now ((let a = c.args in seen_as a.scan no_parcel a.slots a.books)) a.from a.to (sym j.judge_seen-judged.ensures ∙ o.if-judged-ne0.false) (λ z. c.if-own-ne0.true (o.lag_refusal-own.ensures ∙ z))
+    c.no_lag-then-own-ne0.ensures ∙ ap refused_lag c.lag_refusal-own.ensures
+    ∙ own_out a.run a.words.now (seen_as a.scan no_parcel a.slots a.books) a.from a.to (sym c.judge_seen-judged.ensures ∙ c.if-judged-ne0.false) (λ z. c.if-own-ne0.true (c.lag_refusal-own.ensures ∙ z))
 
 pub returns : goal.returns
 returns c =
-    let o = c in
-    let j = o in
     let a = c.args in
-    ap given (to_z-of_z w32 c.lag_of-lag.result (sfits_of c.lag_of-lag.type_inv) ∙ c.lag_of-lag.ensures)
-    ∙ (lag_told a.run a.words.now ((let a = c.args in seen_as a.scan no_parcel a.slots a.books)) a.from a.to (sym j.judge_seen-judged.ensures ∙ o.if-judged-ne0.false) (sym o.lag_refusal-own.ensures ∙ c.if-own-ne0.false))
+    ap given (to_z-of_z w32 c.lag_of.result (sfits_of c.lag_of.type_inv) ∙ c.lag_of.ensures)
+    ∙ (lag_told a.run a.words.now (seen_as a.scan no_parcel a.slots a.books) a.from a.to (sym c.judge_seen-judged.ensures ∙ c.if-judged-ne0.false) (sym c.lag_refusal-own.ensures ∙ c.if-own-ne0.false))

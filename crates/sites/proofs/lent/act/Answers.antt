@@ -8,7 +8,7 @@ decide-v-requires c = clear_ready c.args.refused c.args.run c.args.words.now c.a
 pub returns : goal.returns
 returns c =
     let a = c.args in
-    acted a.refused a.run a.words.now a.slots.now a.ledger.now a.step c.slot_of-at.result c.read_slot-held.result c.needs_slot-wanted.result c.lowest_free-free.result c.link_of-link.result c.see-books.result
+    acted a.refused a.run a.words.now a.slots.now a.ledger.now a.step c.slot_of.result c.read_slot-held.result c.needs_slot.result c.lowest_free-free.result c.link_of.result c.see-books.result
     c.decide-v.result c.decide-v.new.words c.store_slot.new.slots c.book.new.ledger c.requires.0 c.book.ensures.whole
-    c.slot_of-at.ensures c.read_slot-held.ensures c.needs_slot-wanted.ensures c.lowest_free-free.ensures c.link_of-link.ensures c.see-books.ensures
+    c.slot_of.ensures c.read_slot-held.ensures c.needs_slot.ensures c.lowest_free-free.ensures c.link_of.ensures c.see-books.ensures
     c.decide-v.ensures c.book.ensures.booked c.store_slot.ensures

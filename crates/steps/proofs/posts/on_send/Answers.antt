@@ -1,148 +1,54 @@
 -- `steps::posts::on_send`: by its tests in order.
-use Prim.Native.Nat.{ℕ, ◌+◌, ◌*◌, ◌≤◌, ◌<◌}
-use mathlib.Core.Path.{◌≡◌, sym, ap, ◌∙◌}
-use mathlib.Core.List.{List}
-use lib.ListN.{length}
-use Rattle.std.specs.Prelude.{Some}
-use Rattle.rules.specs.meaning.Table.{SoundTable, length_at, found_of, length_of}
-use Rattle.rules.specs.meaning.States.{table_at}
-use Rattle.table.proofs.Raising.{place, its, above_zero, none}
-use Rattle.steps.proofs.Posting.{send_from, send_to, send_same, send_unheld, send_step}
-use Rattle.steps.proofs.Tables.{part_end, site_sound, site_length, part_is, told_of, refused_verdict_law}
-use native.Mathlib.Omega.{arith}
+use Rattle.std.proofs.Common.{arith, refl, sym, ◌∙◌}
+use Rattle.rules.specs.declared.Step.TheVariants.{Send}
+use Rattle.rules.specs.meaning.Steps.{effect}
+use Rattle.steps.proofs.Posting.{sent_none, sent_place, sent_small, sent_length, sent_held, send_unheld, send_step}
+use Rattle.steps.proofs.Tables.{part_end, part_sound, refused_law, sites_refused}
 use Rattle.steps.proofs.posts.on_send.Goals as goal
 
-pub returns-then-run-from : goal.returns-then-run-from
-returns-then-run-from c =
+pub returns-in-Err : goal.returns-in-Err
+unfolding effect
+returns-in-Err c =
     let a = c.args in
-    c.refuse.ensures ∙ refused_verdict_law _ _ _ _ 2 (send_from a.run a.words.now a.seen a.from a.to a.id c.if-run-from.true)
+    c.refuse.ensures ∙ (sites_refused a.run a.words.now a.seen (Send a.from a.to a.id) a.from a.to _ refl _ c.in-Err.ensures.0 c.in-Err.ensures.1).0
 
-pub returns-then-run-to : goal.returns-then-run-to
-returns-then-run-to c =
-    let t = c in
-    let a = t.args in
-    c.refuse-then-run-to.ensures ∙ refused_verdict_law _ _ _ _ 2 (send_to a.run a.words.now a.seen a.from a.to a.id t.if-run-from.false c.if-run-to.true)
-
-pub returns-then-from-to : goal.returns-then-from-to
-returns-then-from-to c =
-    let u = c in
-    let t = u in
-    let a = t.args in
-    c.refuse-then-from-to.ensures ∙ refused_verdict_law _ _ _ _ 3 (send_same a.run a.words.now a.seen a.from a.to a.id t.if-run-from.false u.if-run-to.false c.if-from-to.true)
-
-pub part_of-part-requires : goal.part_of-part-requires
-part_of-part-requires c =
-    let t = c in
-    let a = t in
-    (t.if-run-from.false, (a.requires.sized.few, a.requires.sized.small))
-
-pub offset_bounds-words-a : goal.offset_bounds-words-a
-offset_bounds-words-a c =
-    let from_in : c.args.from < c.args.run.sites = c.if-run-from.false in
-    let fits : c.part_of-part.result.to ≤ length ((c.args.words.now)) = omega (arith, part_end c.args.run ((c.args.words.now)) c.requires c.args.from (from_in), c.part_of-part.ensures.1) in
-    omega (arith, fits, c.part_of-part.ensures)
-
-pub slice_bounds-own-count : goal.slice_bounds-own-count
-slice_bounds-own-count c =
-    let from_in : c.args.from < c.args.run.sites = c.if-run-from.false in
-    let fits : c.part_of-part.result.to ≤ length ((c.args.words.now)) = omega (arith, part_end c.args.run ((c.args.words.now)) c.requires c.args.from (from_in), c.part_of-part.ensures.1) in
-    omega (arith, fits, c.part_of-part.ensures)
-
-pub slice_bounds-own-start : goal.slice_bounds-own-start
-slice_bounds-own-start c =
-    let from_in : c.args.from < c.args.run.sites = c.if-run-from.false in
-    let fits : c.part_of-part.result.to ≤ length ((c.args.words.now)) = omega (arith, part_end c.args.run ((c.args.words.now)) c.requires c.args.from (from_in), c.part_of-part.ensures.1) in
-    omega (arith, fits, c.part_of-part.ensures)
+pub offset_bounds-words-part_of : goal.offset_bounds-words-part_of
+offset_bounds-words-part_of c = omega (arith, part_end c.args.run c.args.words.now c.requires c.args.from c.in_default.ensures.0, c.part_of.ensures)
 
 pub slice_bounds-own-end : goal.slice_bounds-own-end
-slice_bounds-own-end c =
-    let from_in : c.args.from < c.args.run.sites = c.if-run-from.false in
-    let fits : c.part_of-part.result.to ≤ length ((c.args.words.now)) = omega (arith, part_end c.args.run ((c.args.words.now)) c.requires c.args.from (from_in), c.part_of-part.ensures.1) in
-    omega (arith, fits, c.part_of-part.ensures)
+slice_bounds-own-end c = omega (arith, part_end c.args.run c.args.words.now c.requires c.args.from c.in_default.ensures.0, c.part_of.ensures)
 
 pub lookup-requires : goal.lookup-requires
-lookup-requires c =
-    let from_in : c.args.from < c.args.run.sites = c.if-run-from.false in
-    let p = c in
-    let a = c in
-    rw (part_is a.args.run ((c.args.words.now)) a.args.from _ _ p.part_of-part.ensures.0 p.part_of-part.ensures.1) (site_sound a.args.run ((c.args.words.now)) a.requires a.args.from (from_in))
+lookup-requires c = part_sound c.args.run c.args.words.now c.requires c.args.from c.in_default.ensures.0 _ _ c.part_of.ensures.0 c.part_of.ensures.1
 
-pub returns-in_default : goal.returns-in_default
-returns-in_default c =
-    let from_in : c.args.from < c.args.run.sites = c.if-run-from.false in
-    let to_in : c.args.to < c.args.run.sites = c.if-run-to.false in
-    let found_of_law : c.lookup.result ≡ found_of (table_at c.args.run ((c.args.words.now)) c.args.from) c.args.id = let p = c in let a = c.args in told_of a.run ((c.args.words.now)) a.from _ _ p.part_of-part.ensures.0 p.part_of-part.ensures.1 (λ (t : List ℕ). found_of t a.id) c.lookup.ensures in
-    let sound_of : SoundTable (table_at c.args.run ((c.args.words.now)) c.args.from) = site_sound c.args.run ((c.args.words.now)) c.requires c.args.from (from_in) in
-    let l = c in
-    let p = c in
+pub returns-in_default-lookup : goal.returns-in_default-lookup
+returns-in_default-lookup c =
     let a = c.args in
-    c.refuse-in_default.ensures
-    ∙ refused_verdict_law _ _ _ _ 5 (send_unheld a.run ((c.args.words.now)) a.seen a.from a.to a.id (from_in) (to_in) p.if-from-to.false
-    (none _ _ (sound_of) (sym (found_of_law) ∙ c.in_default.is)))
+    let two = c.in_default.ensures in
+    let p = c.part_of in
+    c.refuse-in_default-lookup.ensures ∙ (refused_law _ _ _ _ 5 (send_unheld a.run a.words.now a.seen a.from a.to a.id two.0 two.1.0 two.1.1
+    (sent_none a.run a.words.now c.requires a.from _ _ a.id two.0 p.ensures.0 p.ensures.1 (sym c.in_default-lookup.is ∙ c.lookup.ensures)))).0
 
 pub overflow_mul-parcel : goal.overflow_mul-parcel
-overflow_mul-parcel c =
-    let from_in : c.args.from < c.args.run.sites = c.if-run-from.false in
-    let found_of_law : c.lookup.result ≡ found_of (table_at c.args.run ((c.args.words.now)) c.args.from) c.args.id = let p = c in let a = c.args in told_of a.run ((c.args.words.now)) a.from _ _ p.part_of-part.ensures.0 p.part_of-part.ensures.1 (λ (t : List ℕ). found_of t a.id) c.lookup.ensures in
-    let found : found_of (table_at c.args.run ((c.args.words.now)) c.args.from) c.args.id ≡ Some ((c.in-At.i)) = sym (found_of_law) ∙ c.in-At.is in
-    let sound_of : SoundTable (table_at c.args.run ((c.args.words.now)) c.args.from) = site_sound c.args.run ((c.args.words.now)) c.requires c.args.from (from_in) in
-    let low : 2 * (c.in-At.i) + 1 < length (table_at c.args.run ((c.args.words.now)) c.args.from) = place _ _ ((c.in-At.i)) (sound_of) (found) in
-    let small : 2 * (c.in-At.i) + 1 < 4096 = let p = c in omega (arith, low, site_length c.args.run ((c.args.words.now)) c.requires c.args.from (from_in), c.requires.sized.small) in
-    omega (arith, small)
+overflow_mul-parcel c = omega (arith, sent_small c.args.run c.args.words.now c.requires c.args.from _ _ c.args.id c.in_default.ensures.0 c.part_of.ensures.0 c.part_of.ensures.1 c.in-Some.i c.in-Some.ensures)
 
 pub overflow_add-parcel : goal.overflow_add-parcel
-overflow_add-parcel c =
-    let from_in : c.args.from < c.args.run.sites = c.if-run-from.false in
-    let found_of_law : c.lookup.result ≡ found_of (table_at c.args.run ((c.args.words.now)) c.args.from) c.args.id = let p = c in let a = c.args in told_of a.run ((c.args.words.now)) a.from _ _ p.part_of-part.ensures.0 p.part_of-part.ensures.1 (λ (t : List ℕ). found_of t a.id) c.lookup.ensures in
-    let found : found_of (table_at c.args.run ((c.args.words.now)) c.args.from) c.args.id ≡ Some ((c.in-At.i)) = sym (found_of_law) ∙ c.in-At.is in
-    let sound_of : SoundTable (table_at c.args.run ((c.args.words.now)) c.args.from) = site_sound c.args.run ((c.args.words.now)) c.requires c.args.from (from_in) in
-    let low : 2 * (c.in-At.i) + 1 < length (table_at c.args.run ((c.args.words.now)) c.args.from) = place _ _ ((c.in-At.i)) (sound_of) (found) in
-    let small : 2 * (c.in-At.i) + 1 < 4096 = let p = c in omega (arith, low, site_length c.args.run ((c.args.words.now)) c.requires c.args.from (from_in), c.requires.sized.small) in
-    omega (arith, small)
+overflow_add-parcel c = omega (arith, sent_small c.args.run c.args.words.now c.requires c.args.from _ _ c.args.id c.in_default.ensures.0 c.part_of.ensures.0 c.part_of.ensures.1 c.in-Some.i c.in-Some.ensures)
 
 pub offset_bounds-own-i : goal.offset_bounds-own-i
-offset_bounds-own-i c =
-    let from_in : c.args.from < c.args.run.sites = c.if-run-from.false in
-    let found_of_law : c.lookup.result ≡ found_of (table_at c.args.run ((c.args.words.now)) c.args.from) c.args.id = let p = c in let a = c.args in told_of a.run ((c.args.words.now)) a.from _ _ p.part_of-part.ensures.0 p.part_of-part.ensures.1 (λ (t : List ℕ). found_of t a.id) c.lookup.ensures in
-    let found : found_of (table_at c.args.run ((c.args.words.now)) c.args.from) c.args.id ≡ Some ((c.in-At.i)) = sym (found_of_law) ∙ c.in-At.is in
-    let sound_of : SoundTable (table_at c.args.run ((c.args.words.now)) c.args.from) = site_sound c.args.run ((c.args.words.now)) c.requires c.args.from (from_in) in
-    let low : 2 * (c.in-At.i) + 1 < length (table_at c.args.run ((c.args.words.now)) c.args.from) = place _ _ ((c.in-At.i)) (sound_of) (found) in
-    let small : 2 * (c.in-At.i) + 1 < 4096 = let p = c in omega (arith, low, site_length c.args.run ((c.args.words.now)) c.requires c.args.from (from_in), c.requires.sized.small) in
-    omega (arith, small)
+offset_bounds-own-i c = omega (arith, sent_small c.args.run c.args.words.now c.requires c.args.from _ _ c.args.id c.in_default.ensures.0 c.part_of.ensures.0 c.part_of.ensures.1 c.in-Some.i c.in-Some.ensures)
 
 pub bounds-own-i : goal.bounds-own-i
-bounds-own-i c =
-    let found_of_law : c.lookup.result ≡ found_of (table_at c.args.run ((c.args.words.now)) c.args.from) c.args.id = let p = c in let a = c.args in told_of a.run ((c.args.words.now)) a.from _ _ p.part_of-part.ensures.0 p.part_of-part.ensures.1 (λ (t : List ℕ). found_of t a.id) c.lookup.ensures in
-    let found : found_of (table_at c.args.run ((c.args.words.now)) c.args.from) c.args.id ≡ Some ((c.in-At.i)) = sym (found_of_law) ∙ c.in-At.is in
-    let from_in : c.args.from < c.args.run.sites = c.if-run-from.false in
-    let sound_of : SoundTable (table_at c.args.run ((c.args.words.now)) c.args.from) = site_sound c.args.run ((c.args.words.now)) c.requires c.args.from (from_in) in
-    let low : 2 * (c.in-At.i) + 1 < length (table_at c.args.run ((c.args.words.now)) c.args.from) = place _ _ ((c.in-At.i)) (sound_of) (found) in
-    let k = c in
-    let p = c in
-    let a = c.args in
-    rw (part_is a.run ((c.args.words.now)) a.from _ _ p.part_of-part.ensures.0 p.part_of-part.ensures.1) (low)
+bounds-own-i c = sent_place c.args.run c.args.words.now c.requires c.args.from _ _ c.args.id c.in_default.ensures.0 c.part_of.ensures.0 c.part_of.ensures.1 c.in-Some.i c.in-Some.ensures
 
 pub overflow_cast-parcel : goal.overflow_cast-parcel
-overflow_cast-parcel c =
-    let from_in : c.args.from < c.args.run.sites = c.if-run-from.false in
-    let fits : c.part_of-part.result.to ≤ length ((c.args.words.now)) = omega (arith, part_end c.args.run ((c.args.words.now)) c.requires c.args.from (from_in), c.part_of-part.ensures.1) in
-    let p = c in
-    record { fits = omega (arith, from_in, c.requires.sized.few) }
+overflow_cast-parcel c = record { fits = omega (arith, c.in_default.ensures.0, c.requires.sized.few) }
 
 pub returns : goal.returns
 returns c =
-    let from_in : c.args.from < c.args.run.sites = c.if-run-from.false in
-    let to_in : c.args.to < c.args.run.sites = c.if-run-to.false in
-    let sound_of : SoundTable (table_at c.args.run ((c.args.words.now)) c.args.from) = site_sound c.args.run ((c.args.words.now)) c.requires c.args.from (from_in) in
-    let found_of_law : c.lookup.result ≡ found_of (table_at c.args.run ((c.args.words.now)) c.args.from) c.args.id = let p = c in let a = c.args in told_of a.run ((c.args.words.now)) a.from _ _ p.part_of-part.ensures.0 p.part_of-part.ensures.1 (λ (t : List ℕ). found_of t a.id) c.lookup.ensures in
-    let found : found_of (table_at c.args.run ((c.args.words.now)) c.args.from) c.args.id ≡ Some ((c.in-At.i)) = sym (found_of_law) ∙ c.in-At.is in
-    let s = c in
-    let k = s in
-    let p = c in
     let a = c.args in
-    let t = table_at a.run ((c.args.words.now)) a.from in
-    let held : length_of t a.id ≡ 0 → ⊥ = λ z. omega (arith, z, above_zero t a.id ((c.in-At.i)) (sound_of) (found)) in
-    c.post.ensures
-    ∙ send_step a.run ((c.args.words.now)) a.seen a.from a.to a.id (from_in) (to_in) p.if-from-to.false held _
-    (ap (λ (u : List ℕ). length_at u ((c.in-At.i))) (part_is a.run ((c.args.words.now)) a.from _ _ p.part_of-part.ensures.0 p.part_of-part.ensures.1) ∙ its t a.id ((c.in-At.i)) (sound_of) (found))
-    _ s.sent_pair-after.ensures
+    let two = c.in_default.ensures in
+    let p = c.part_of in
+    c.post.ensures ∙ rw c.sent_pair.ensures (send_step a.run a.words.now a.seen a.from a.to a.id two.0 two.1.0 two.1.1
+    (sent_held a.run a.words.now c.requires a.from _ _ a.id two.0 p.ensures.0 p.ensures.1 c.in-Some.i c.in-Some.ensures)
+    _ (sent_length a.run a.words.now c.requires a.from _ _ a.id two.0 p.ensures.0 p.ensures.1 c.in-Some.i c.in-Some.ensures))
