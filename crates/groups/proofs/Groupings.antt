@@ -1,36 +1,36 @@
 -- The group of some bytes, by its count.
-use mathlib.Core.Path.{◌≡◌, refl, sym, ap, ◌∙◌}
-use mathlib.Core.Bool.{Bool, true, false, false≢true}
+use mathlib.Core.Path.{◌≡◌, refl, ap, ◌∙◌}
 use mathlib.Core.List.{List, [], ◌∷◌, ◌++◌}
-use Prim.Native.Nat.{ℕ, ◌*◌, ◌^◌, ◌≤◌, ◌<◌}
+use Prim.Native.Nat.{ℕ, ◌^◌, ◌≤◌, ◌<◌}
 use native.Mathlib.Omega.{arith}
 use borrow.Author.Tests.{le-leb, lt-leb, lt-ltb}
 use lib.Dec.{leb}
-use lib.ListN.{length, get_or, take, drop}
+use Rattle.std.specs.Prelude.{None}
+use lib.ListN.{length, get_or, drop}
 use lib.Seq.{drop-cons}
 use Rattle.rules.specs.meaning.Text.{Front, front, refused}
 use Rattle.rules.specs.meaning.Leb.{leb_value, of64, read_leb}
-use Rattle.rules.specs.meaning.Groups.{Group, group, no_group, most_entries, onward, group_if, entries_from, group_of}
+use Rattle.rules.specs.meaning.Groups.{no_group, most_entries, onward, group_if, entries_from, group_of}
 use Rattle.rules.proofs.laws.group.Leb.{leb_small, read_leb_law}
 use Rattle.rules.proofs.laws.line.Numbers.{below}
-use Rattle.groups.specs.Decoding.{Lays}
+use Rattle.groups.specs.Decoding.{Decodes}
 
-module _ (bs : List ℕ) where
-  pub no_count : length bs ≡ 0 → group_of bs ≡ no_group
-  unfolding group_of read_leb leb_value
+module _ (bs words : List ℕ) where
+  pub no_count : length bs ≤ 0 → Decodes (group_of bs) None words
+  unfolding Decodes group_of read_leb leb_value
   no_count h = go bs h
     where
-      go : (xs : List ℕ) → length xs ≡ 0 → group_of xs ≡ no_group
+      go : (xs : List ℕ) → length xs ≤ 0 → group_of xs ≡ no_group
       go [] h = refl
       go (x ∷ xs) h = absurd (omega arith)
 
-  module _ (count : ℕ) (here : 0 < length bs) (is : count ≡ get_or bs 0 0) where
-    first : bs ≡ count ∷ drop 1 bs
-    first = rw is (drop-cons bs 0 0 here)
+  module _ (here : 0 < length bs) where
+    first : bs ≡ get_or bs 0 0 ∷ drop 1 bs
+    first = drop-cons bs 0 0 here
 
     -- a number that begins with another byte than itself is above 64
-    pub too_many : 64 < count → group_of bs ≡ no_group
-    unfolding group_of
+    pub too_many : 64 < get_or bs 0 0 → Decodes (group_of bs) None words
+    unfolding Decodes group_of
     too_many h = go (read_leb bs) refl
       where
         go : (f : Front) → read_leb bs ≡ f → onward f (λ n rest. group_if (leb n most_entries) (entries_from n 0 rest)) ≡ no_group
@@ -38,22 +38,15 @@ module _ (bs : List ℕ) where
             below 64 n (λ l. rw (lt-leb n most_entries l))
             (λ l.
             let t : bs ≡ n ∷ rest = (read_leb_law bs n rest e).0 ∙ ap (λ (ys : List ℕ). ys ++ rest) (leb_small n (omega arith)) in
-            let q : count ≡ n = ap (λ (ys : List ℕ). get_or ys 0 0) (sym first ∙ t) in
+            let q : get_or bs 0 0 ≡ n = ap (λ (ys : List ℕ). get_or ys 0 0) t in
             absurd (omega arith))
         go refused e = refl
 
-    pub so_many : count ≤ 64 → group_of bs ≡ entries_from count 0 (drop 1 bs)
+    pub so_many : get_or bs 0 0 ≤ 64 → group_of bs ≡ entries_from (get_or bs 0 0) 0 (drop 1 bs)
     unfolding group_of read_leb leb_value of64
-    so_many h =
-        let r : read_leb bs ≡ front count (drop 1 bs) = ap read_leb first ∙ rw (lt-ltb count 128 (omega arith), lt-ltb count (2 ^ 64) (omega arith)) in
-        rw (r, le-leb count most_entries h)
+    so_many few =
+        let n = get_or bs 0 0 in
+        let r : read_leb bs ≡ front n (drop 1 bs) = ap read_leb first ∙ rw (lt-ltb n 128 (omega arith), lt-ltb n (2 ^ 64) (omega arith)) in
+        rw (r, le-leb n most_entries few)
 
--- ---- what laying the entries says
-module _ (g : Group) (count : ℕ) (words : List ℕ) where
-  pub laid : (r : Bool) → Lays g count r words → r ≡ true → g ≡ group (take (2 * count) words)
-  laid true is e = is
-  laid false is e = absurd (false≢true e)
-
-  pub unlaid : (r : Bool) → Lays g count r words → r ≡ false → g ≡ no_group
-  unlaid true is e = absurd (false≢true (sym e))
-  unlaid false is e = is
+pub ruleset groupings = (no_count, too_many, so_many)

@@ -1,13 +1,15 @@
--- Words judged entry by entry, and when they are no group before any is looked at.
+-- Words judged pair by pair, and when they are no group before any is looked at.
 use mathlib.Core.Path.{◌≡◌, refl, sym, ap, ◌∙◌}
 use mathlib.Core.Bool.{Bool, true, false, ◌&&◌, not}
 use mathlib.Core.List.{List, [], ◌∷◌}
-use Prim.Native.Nat.{ℕ, zero, suc, ◌+◌, ◌*◌, ◌%◌, ◌^◌, ◌≤◌, ◌<◌}
+use Prim.Native.Nat.{ℕ, zero, suc, ◌+◌, ◌-◌, ◌*◌, ◌/◌, ◌%◌, ◌^◌, ◌≤◌, ◌<◌}
 use native.Mathlib.Omega.{arith}
 use borrow.Author.Tests.{lt-ltb, le-leb, lt-leb, ne_eqb}
 use lib.Dec.{leb, ltb, eqb, leb-zero}
-use lib.ListN.{length, get_or, drop, drop_of_length-le}
-use lib.Seq.{drop-cons}
+use lib.ListN.{length, get_or, take, drop, length-drop, drop_of_length-le}
+use lib.Seq.{get_or-take, get_or-drop, length-take-le}
+use Rattle.std.specs.Simd.{first_chunks}
+use Rattle.groups.proofs.Pairs.{id_at, length_at, pair_at, pairs_many}
 use Rattle.rules.specs.meaning.Lengths.{M}
 use Rattle.rules.specs.meaning.Groups.{most_entries, rising_from, is_group}
 use Rattle.rules.proofs.laws.line.Numbers.{by_test}
@@ -29,48 +31,72 @@ regroup true true false d e = refl
 regroup true false c d e = refl
 regroup false b c d e = refl
 
-module _ (es : List ℕ) where
-  -- ---- two words at a place
-  pub pair_at_law : (i : ℕ) → i + 1 < length es → drop i es ≡ get_or es i 0 ∷ get_or es (i + 1) 0 ∷ drop (i + 2) es
-  pair_at_law i h =
-      let k : i + 1 ≡ suc i = omega arith in
-      let m : i + 2 ≡ suc (suc i) = omega arith in
-      rw (k, m) (drop-cons es i 0 (omega arith) ∙ ap (λ t. get_or es i 0 ∷ t) (drop-cons es (suc i) 0 (omega arith)))
+-- the pairs behind the first one
+abbrev pub behind : List (List ℕ) → List (List ℕ)
+behind pairs = take (length pairs - 1) (drop 1 pairs)
 
-  rising_at : (lo i : ℕ) → i + 1 < length es → get_or es i 0 < 2 ^ 64
-      → rising_from lo (drop i es) ≡ leb lo (get_or es i 0) && (not (eqb (get_or es (i + 1) 0) 0) && (leb (get_or es (i + 1) 0) M && rising_from (suc (get_or es i 0)) (drop (i + 2) es)))
-  unfolding rising_from
-  rising_at lo i h f = rw (pair_at_law i h, lt-ltb (get_or es i 0) (2 ^ 64) f, some_length (get_or es (i + 1) 0))
+many_behind : (pairs : List (List ℕ)) → length (behind pairs) ≡ length pairs - 1
+many_behind pairs = length-take-le (length pairs - 1) (drop 1 pairs) (omega (arith, length-drop 1 pairs))
+
+behind_at : (pairs : List (List ℕ)) (k : ℕ) → k < length (behind pairs) → get_or (behind pairs) k [] ≡ get_or pairs (k + 1) []
+behind_at pairs k h =
+    let w : 1 + k ≡ k + 1 = omega arith in
+    get_or-take (length pairs - 1) (drop 1 pairs) k [] (omega (arith, many_behind pairs)) ∙ get_or-drop 1 pairs k [] ∙ ap (λ (i : ℕ). get_or pairs i []) w
+
+module _ (es : List ℕ) (pairs : List (List ℕ)) (fits : (i : ℕ) → get_or es i 0 < 2 ^ 64) (paired : pairs ≡ first_chunks 2 (length es / 2) es) where
+  module _ (k : ℕ) (more : k < length pairs) where
+    stands : drop (2 * k) es ≡ id_at pairs k ∷ length_at pairs k ∷ drop (2 * k + 2) es
+    stands = rw paired (pair_at es (length es / 2) k (omega (arith, pairs_many es pairs paired)) (omega arith))
+
+    id_fits : id_at pairs k < 2 ^ 64
+    id_fits =
+        let e : get_or es (2 * k + 0) 0 ≡ id_at pairs k = sym (get_or-drop (2 * k) es 0 0) ∙ ap (λ (t : List ℕ). get_or t 0 0) stands in
+        omega (arith, fits (2 * k + 0))
+
+    rising_at : (lo : ℕ) → rising_from lo (drop (2 * k) es) ≡ leb lo (id_at pairs k) && (not (eqb (length_at pairs k) 0) && (leb (length_at pairs k) M && rising_from (suc (id_at pairs k)) (drop (2 * k + 2) es)))
+    unfolding rising_from
+    rising_at lo = rw (stands, lt-ltb (id_at pairs k) (2 ^ 64) id_fits, some_length (length_at pairs k))
 
   -- ---- the first entry, one more, and the end
-  pub rising_first : 1 < length es → get_or es 0 0 < 2 ^ 64 → (not (eqb (get_or es 1 0) 0) && leb (get_or es 1 0) M) && rising_from (suc (get_or es 0 0)) (drop 2 es) ≡ rising_from 0 es
-  rising_first h f =
-      regroup true true (not (eqb (get_or es 1 0) 0)) (leb (get_or es 1 0) M) (rising_from (suc (get_or es 0 0)) (drop 2 es))
-      ∙ sym (rising_at 0 0 (omega arith) f ∙ rw (leb-zero (get_or es 0 0)))
+  pub rising_first : 1 < length es → (not (eqb (get_or es 1 0) 0) && leb (get_or es 1 0) M) && rising_from (suc (get_or es 0 0)) (drop (2 * (0 + 1)) es) ≡ rising_from 0 es
+  rising_first h =
+      let one : 0 < length pairs = omega (arith, pairs_many es pairs paired) in
+      let a : id_at pairs 0 ≡ get_or es 0 0 = ap (λ (t : List ℕ). get_or t 0 0) (sym (stands 0 one)) in
+      let b : length_at pairs 0 ≡ get_or es 1 0 = ap (λ (t : List ℕ). get_or t 1 0) (sym (stands 0 one)) in
+      rw (← a, ← b)
+      (regroup true true (not (eqb (length_at pairs 0) 0)) (leb (length_at pairs 0) M) (rising_from (suc (id_at pairs 0)) (drop 2 es))
+      ∙ sym (rising_at 0 one 0 ∙ rw (leb-zero (id_at pairs 0))))
 
-  pub rising_more : (i before : ℕ) (ok all : Bool) → i + 1 < length es → get_or es i 0 < 2 ^ 64 → ok && rising_from (suc before) (drop i es) ≡ all
-      → (ok && ltb before (get_or es i 0) && not (eqb (get_or es (i + 1) 0) 0) && leb (get_or es (i + 1) 0) M) && rising_from (suc (get_or es i 0)) (drop (i + 2) es) ≡ all
-  rising_more i before ok all h f inv =
-      regroup ok (ltb before (get_or es i 0)) (not (eqb (get_or es (i + 1) 0) 0)) (leb (get_or es (i + 1) 0) M) (rising_from (suc (get_or es i 0)) (drop (i + 2) es))
-      ∙ ap (λ b. ok && b) (sym (rising_at (suc before) i h f)) ∙ inv
+  pub rising_more : (k before : ℕ) (ok all : Bool) → k < length (behind pairs) → ok && rising_from (suc before) (drop (2 * (k + 1)) es) ≡ all
+      → (ok && ltb before (id_at (behind pairs) k) && not (eqb (length_at (behind pairs) k) 0) && leb (length_at (behind pairs) k) M) && rising_from (suc (id_at (behind pairs) k)) (drop (2 * (k + 1 + 1)) es) ≡ all
+  rising_more k before ok all h inv =
+      let i = k + 1 in
+      let w : 2 * (k + 1 + 1) ≡ 2 * (k + 1) + 2 = omega arith in
+      rw (behind_at pairs k h, w)
+      (regroup ok (ltb before (id_at pairs i)) (not (eqb (length_at pairs i) 0)) (leb (length_at pairs i) M) (rising_from (suc (id_at pairs i)) (drop (2 * i + 2) es))
+      ∙ ap (λ b. ok && b) (sym (rising_at i (omega (arith, many_behind pairs)) (suc before))) ∙ inv)
 
-  pub rising_end : (i lo : ℕ) (ok all : Bool) → length es ≤ i → ok && rising_from lo (drop i es) ≡ all → ok ≡ all
+  pub rising_end : (k lo : ℕ) (ok all : Bool) → length es % 2 ≡ 0 → length (behind pairs) ≤ k → ok && rising_from lo (drop (2 * (k + 1)) es) ≡ all → ok ≡ all
   unfolding rising_from
-  rising_end i lo ok all h inv = sym (and_true ok) ∙ (rw (drop_of_length-le es {i = i} h) at inv)
+  rising_end k lo ok all even h inv =
+      let e : length es ≤ 2 * (k + 1) = omega (arith, many_behind pairs, pairs_many es pairs paired) in
+      sym (and_true ok) ∙ (rw (drop_of_length-le es e) at inv)
 
-  -- ---- by the number of words
-  pub group_long : 128 < length es → false ≡ is_group es
-  unfolding is_group
-  group_long h = rw (lt-leb (length es) (2 * most_entries) h)
+-- ---- by the number of words
+pub group_long : (es : List ℕ) → 128 < length es → is_group es ≡ false
+unfolding is_group
+group_long es h = rw (lt-leb (length es) (2 * most_entries) h)
 
-  pub group_odd : (length es % 2 ≡ 0 → ⊥) → false ≡ is_group es
-  group_odd h = by_test (is_group es) (λ t. absurd (h (let k = group_full es t in omega arith))) (λ f. sym f)
+pub group_odd : (es : List ℕ) → (length es % 2 ≡ 0 → ⊥) → is_group es ≡ false
+group_odd es h = by_test (is_group es) (λ t. absurd (h (let k = group_full es t in omega arith))) (λ f. f)
 
-  pub group_is : (r : Bool) → length es ≤ 128 → r ≡ rising_from 0 es → r ≡ is_group es
-  unfolding is_group
-  group_is r h e = rw (le-leb (length es) (2 * most_entries) h) e
+pub group_is : (es : List ℕ) → length es ≤ 128 → is_group es ≡ rising_from 0 es
+unfolding is_group
+group_is es h = rw (le-leb (length es) (2 * most_entries) h)
 
-pub group_empty : (es : List ℕ) → length es ≡ 0 → true ≡ is_group es
+pub group_empty : (es : List ℕ) → length es ≡ 0 → is_group es ≡ true
 unfolding is_group rising_from
 group_empty [] h = refl
 group_empty (w ∷ es) h = absurd (omega arith)
+
+pub ruleset judgings = (group_long, group_odd, group_is, group_empty)

@@ -1,114 +1,126 @@
 -- A group laid entry by entry: how many bytes are left to be laid, and what the buffer is with them.
 use mathlib.Core.Path.{◌≡◌, refl, sym, ap, ◌∙◌}
-use mathlib.Core.List.{List, [], ◌∷◌, ◌++◌}
+use mathlib.Core.List.{List, ◌∷◌, ◌++◌}
 use Prim.Native.Nat.{ℕ, zero, suc, ◌+◌, ◌-◌, ◌*◌, ◌/◌, ◌≤◌, ◌<◌}
 use native.Mathlib.Omega.{arith}
 use native.Mathlib.Numerals.{add-one}
 use lib.Dec.{leb}
-use lib.ListN.{length, get_or, drop, length-append, length-drop, drop_of_length-le}
-use lib.Seq.{get_or-drop, drop-drop}
+use borrow.Author.Tests.{le-leb}
+use mathlib.Core.Bool.{true}
+use lib.ListN.{length, drop, length-append, drop_of_length-le}
+use Rattle.std.specs.Simd.{first_chunks}
 use Rattle.rules.specs.meaning.Leb.{leb128}
 use Rattle.rules.specs.meaning.Groups.{most_entries, rising_from, is_group, fields_from, group_bytes}
 use Rattle.rules.specs.meaning.Put.{put}
 use Rattle.rules.proofs.laws.Put.{put_nil, put_put}
 use Rattle.rules.proofs.laws.table.View.{parts}
-use Rattle.rules.proofs.laws.group.Groups.{Rising, done, entry, see_rising}
+use Rattle.rules.proofs.laws.group.Groups.{Rising, done, entry, see_rising, group_full, group_few, group_by_words}
 use Rattle.rules.proofs.laws.group.Leb.{leb_some}
 use Rattle.groups.specs.Writing.{IsGroup, Led}
+use Rattle.groups.proofs.Pairs.{id_at, length_at, pair_at, pairs_many}
 
--- ---- an entry at a place
--- the bytes of the id, those of the length, and those of the entries behind
-abbrev pub id_bytes : List ℕ → ℕ → ℕ → List ℕ
-id_bytes es lo i = leb128 (get_or es i 0 - lo)
+-- ---- the entry of a turn: what is left of the group begins with it
+record Entry (es : List ℕ) (lo id n i : ℕ) : Type 0 where
+  low : lo ≤ id
+  some : 1 ≤ n
+  next : Rising (suc id) (drop (i + 2) es)
+  bytes : fields_from lo (drop i es) ≡ leb128 (id - lo) ++ (leb128 (n - 1) ++ fields_from (suc id) (drop (i + 2) es))
 
-abbrev pub length_bytes : List ℕ → ℕ → List ℕ
-length_bytes es i = leb128 (get_or es (i + 1) 0 - 1)
-
--- the code takes the two parts of the least id away one by one
-pub gap_is : (e before step : ℕ) → e - before - step ≡ e - (before + step)
-gap_is e before step = omega arith
-
-pub record Entry (es : List ℕ) (lo i : ℕ) : Type 0 where
-  pub two : i + 1 < length es
-  pub low : lo ≤ get_or es i 0
-  pub some : 1 ≤ get_or es (i + 1) 0
-  pub next : Rising (suc (get_or es i 0)) (drop (i + 2) es)
-  pub bytes : fields_from lo (drop i es) ≡ id_bytes es lo i ++ (length_bytes es i ++ fields_from (suc (get_or es i 0)) (drop (i + 2) es))
-
-pub entry_at : (es : List ℕ) (lo i : ℕ) → Rising lo (drop i es) → i < length es → Entry es lo i
+entry_at : (es : List ℕ) (lo id n i : ℕ) → Rising lo (drop i es) → drop i es ≡ id ∷ n ∷ drop (i + 2) es → Entry es lo id n i
 unfolding fields_from
-entry_at es lo i r h = go (drop i es) refl r
+entry_at es lo id n i r e = go n (drop (i + 2) es) refl refl (rw e at r)
   where
-    go : (l : List ℕ) → drop i es ≡ l → Rising lo l → Entry es lo i
-    go [] q done = absurd (omega (arith, length-drop i es, ap length q))
-    go (e ∷ []) q r = elim r [ ]
-    go (e ∷ zero ∷ fs) q r = elim r [ ]
-    go (e ∷ suc n ∷ fs) q (entry l k m next) =
-        let z : i + 0 ≡ i = omega arith in
-        let ee : get_or es i 0 ≡ e = ap (λ (j : ℕ). get_or es j 0) (sym z) ∙ sym (get_or-drop i es 0 0) ∙ ap (λ t. get_or t 0 0) q in
-        let en : get_or es (i + 1) 0 ≡ suc n = sym (get_or-drop i es 1 0) ∙ ap (λ t. get_or t 1 0) q in
-        let ef : drop (i + 2) es ≡ fs = sym (drop-drop 2 i es) ∙ ap (drop 2) q in
-        record {
-          two = omega (arith, length-drop i es, ap length q);
-          low = rw ee l;
-          some = rw en (omega arith);
-          next = rw (ee, ef) next;
-          bytes = rw (q, ee, en, ef);
-        }
+    go : (m : ℕ) (fs : List ℕ) → n ≡ m → drop (i + 2) es ≡ fs → Rising lo (id ∷ m ∷ fs) → Entry es lo id n i
+    go zero fs q t r = elim r [ ]
+    go (suc m) fs q t (entry l k h next) = record { low = l; some = omega arith; next = rw t next; bytes = rw e }
 
--- ---- what the loops keep: the bytes laid and those of the entries that are left are the group's
-pub record Laying (es : List ℕ) (place lo i : ℕ) : Type 0 where
-  pub rising : Rising lo (drop i es)
-  pub whole : place + length (fields_from lo (drop i es)) ≡ length (group_bytes es)
+-- ---- what the loops keep: the bytes laid and those of the entries that are left are the group's. The least id is kept in two parts, as the code has it
+pub record Laying (es : List ℕ) (pairs : List (List ℕ)) (place before step k : ℕ) : Type 0 where
+  pub paired : pairs ≡ first_chunks 2 (length es / 2) es
+  pub even : length es ≡ 2 * (length es / 2)
+  pub rising : Rising (before + step) (drop (2 * k) es)
+  pub whole : place + length (fields_from (before + step) (drop (2 * k) es)) ≡ length (group_bytes es)
 
-pub rises : (es : List ℕ) → IsGroup es → Rising 0 es
+rises : (es : List ℕ) → IsGroup es → Rising 0 es
 unfolding is_group
 rises es h = see_rising 0 es (parts (leb (length es) (2 * most_entries)) (rising_from 0 es) h).1
 
-module _ (es : List ℕ) where
-  pub laying_none : (place : ℕ) → IsGroup es → place ≡ length (leb128 (length es / 2)) → Laying es place 0 0
+-- an entry's two numbers: how far its id lies above the least, and its length less 1
+abbrev pub gap : List (List ℕ) → ℕ → ℕ → ℕ → ℕ
+gap pairs before step k = id_at pairs k - before - step
+
+abbrev pub less : List (List ℕ) → ℕ → ℕ
+less pairs k = length_at pairs k - 1
+
+-- what a turn may use: nothing is taken from less, and the entry's bytes are among the group's
+pub record Turn (es : List ℕ) (pairs : List (List ℕ)) (place before step k : ℕ) : Type 0 where
+  pub low : before + step ≤ id_at pairs k
+  pub some : 1 ≤ length_at pairs k
+  pub room : place + length (leb128 (gap pairs before step k)) + length (leb128 (less pairs k)) ≤ length (group_bytes es)
+
+module _ (es : List ℕ) (pairs : List (List ℕ)) where
+  pub laying_none : (place : ℕ) → IsGroup es → pairs ≡ first_chunks 2 (length es / 2) es → place ≡ length (leb128 (length es / 2)) → Laying es pairs place 0 0 0
   unfolding group_bytes
-  laying_none place h e =
-      record { rising = rises es h; whole = rw e (sym (length-append (leb128 (length es / 2)) (fields_from 0 es))) }
+  laying_none place h q e =
+      record {
+        paired = q;
+        even = omega (arith, group_full es h);
+        rising = rises es h;
+        whole = rw e (sym (length-append (leb128 (length es / 2)) (fields_from 0 es)));
+      }
 
-  module _ (place lo i : ℕ) (l : Laying es place lo i) where
-    pub laying_entry : i < length es → Entry es lo i
-    laying_entry h = entry_at es lo i l.rising h
+  module _ (place before step k : ℕ) (l : Laying es pairs place before step k) where
+    module _ (more : k < length pairs) where
+      here : Entry es (before + step) (id_at pairs k) (length_at pairs k) (2 * k)
+      here = rw l.paired (entry_at es (before + step) _ _ (2 * k) l.rising (pair_at es (length es / 2) k (omega (arith, pairs_many es pairs l.paired)) (omega (arith, l.even))))
 
-    -- the bytes of this entry are among those that are left
-    pub laying_room : i < length es → place + length (id_bytes es lo i) + length (length_bytes es i) + length (fields_from (suc (get_or es i 0)) (drop (i + 2) es)) ≡ length (group_bytes es)
-    laying_room h =
-        let rest = fields_from (suc (get_or es i 0)) (drop (i + 2) es) in
-        omega (arith, l.whole, ap length (laying_entry h).bytes, length-append (id_bytes es lo i) (length_bytes es i ++ rest), length-append (length_bytes es i) rest)
+      apart : gap pairs before step k ≡ id_at pairs k - (before + step)
+      apart = omega arith
 
-    pub laying_more : (next : ℕ) → i < length es → next ≡ place + length (id_bytes es lo i) + length (length_bytes es i) → Laying es next (get_or es i 0 + 1) (i + 2)
-    laying_more next h e = rw add-one (record { rising = (laying_entry h).next; whole = rw e (laying_room h) })
+      rest : List ℕ
+      rest = fields_from (suc (id_at pairs k)) (drop (2 * k + 2) es)
 
-    pub laying_end : length es ≤ i → place ≡ length (group_bytes es)
-    unfolding fields_from
-    laying_end h = omega (arith, rw (drop_of_length-le es h) at l.whole)
+      -- the bytes of this entry are among those that are left
+      split : place + length (leb128 (gap pairs before step k)) + length (leb128 (less pairs k)) + length (fields_from (suc (id_at pairs k)) (drop (2 * k + 2) es)) ≡ length (group_bytes es)
+      split =
+          rw apart
+          (omega (arith, l.whole, ap length here.bytes, length-append (leb128 (id_at pairs k - (before + step))) (leb128 (less pairs k) ++ fields_from (suc (id_at pairs k)) (drop (2 * k + 2) es)), length-append (leb128 (less pairs k)) (fields_from (suc (id_at pairs k)) (drop (2 * k + 2) es))))
+
+      pub laying_turn : Turn es pairs place before step k
+      laying_turn = record { low = here.low; some = here.some; room = omega (arith, split) }
+
+      pub laying_more : (next : ℕ) → next ≡ place + length (leb128 (gap pairs before step k)) + length (leb128 (less pairs k)) → Laying es pairs next (id_at pairs k) 1 (k + 1)
+      laying_more next e =
+          let w : 2 * (k + 1) ≡ 2 * k + 2 = omega arith in
+          record { paired = l.paired; even = l.even; rising = rw (w, add-one) here.next; whole = rw (w, add-one, e) split }
+
+    module _ (all : length pairs ≤ k) where
+      all_laid : length es ≤ 2 * k
+      all_laid = omega (arith, l.even, pairs_many es pairs l.paired)
+
+      pub laying_end : place ≡ length (group_bytes es)
+      unfolding fields_from
+      laying_end = omega (arith, rw (drop_of_length-le es all_laid) at l.whole)
 
 -- ---- the buffer: with the bytes of the entries that are left put from the place on, it is what it is to be in the end
-module _ (es end : List ℕ) where
-  abbrev pub Laid : List ℕ → ℕ → ℕ → ℕ → Type 0
-  Laid out place lo i = put out place (fields_from lo (drop i es)) ≡ end
-
-  pub laid_more : (out out₁ out₂ : List ℕ) (place middle next lo i : ℕ) → Laying es place lo i → i < length es → length (group_bytes es) ≤ length out
-      → Led out place (get_or es i 0 - lo) middle out₁ → length out₁ ≡ length out
-      → next ≡ middle + length (length_bytes es i) → out₂ ≡ put out₁ middle (length_bytes es i)
-      → Laid out place lo i → Laid out₂ next (get_or es i 0 + 1) (i + 2)
-  laid_more out out₁ out₂ place middle next lo i l h room led long en e₂ inv =
-      let a = id_bytes es lo i in
-      let b = length_bytes es i in
-      let rest = fields_from (suc (get_or es i 0)) (drop (i + 2) es) in
-      let n = laying_room es place lo i l h in
+module _ (es : List ℕ) (pairs : List (List ℕ)) (end : List ℕ) where
+  pub laid_more : (out out₁ out₂ : List ℕ) (place middle next before step k : ℕ) → Laying es pairs place before step k → k < length pairs → length (group_bytes es) ≤ length out
+      → Led out place (gap pairs before step k) middle out₁ → length out₁ ≡ length out
+      → next ≡ middle + length (leb128 (less pairs k)) → out₂ ≡ put out₁ middle (leb128 (less pairs k))
+      → put out place (fields_from (before + step) (drop (2 * k) es)) ≡ end → put out₂ next (fields_from (id_at pairs k + 1) (drop (2 * (k + 1)) es)) ≡ end
+  laid_more out out₁ out₂ place middle next before step k l h room led long en e₂ inv =
+      let a = leb128 (gap pairs before step k) in
+      let b = leb128 (less pairs k) in
+      let rest = fields_from (suc (id_at pairs k)) (drop (2 * k + 2) es) in
+      let w : 2 * (k + 1) ≡ 2 * k + 2 = omega arith in
+      let n = split es pairs place before step k l h in
       let second : put out₂ next rest ≡ put out₁ middle (b ++ rest) = rw (e₂, en) (put_put out₁ middle b rest (omega (arith, led.0))) in
-      let first : put out₁ middle (b ++ rest) ≡ put out place (a ++ (b ++ rest)) = led.1 (b ++ rest) (omega (arith, length-append b rest, leb_some (get_or es (i + 1) 0 - 1))) in
-      rw add-one (second ∙ first ∙ ap (put out place) (sym (laying_entry es place lo i l h).bytes) ∙ inv)
+      let first : put out₁ middle (b ++ rest) ≡ put out place (a ++ (b ++ rest)) = led.1 (b ++ rest) (omega (arith, length-append b rest, leb_some (less pairs k))) in
+      rw (w, add-one) (second ∙ first ∙ rw (apart es pairs place before step k l h) (ap (put out place) (sym (here es pairs place before step k l h).bytes) ∙ inv))
 
-  pub laid_end : (out : List ℕ) (place lo i : ℕ) → length es ≤ i → Laid out place lo i → out ≡ end
+  pub laid_end : (out : List ℕ) (place before step k : ℕ) → Laying es pairs place before step k → length pairs ≤ k → put out place (fields_from (before + step) (drop (2 * k) es)) ≡ end → out ≡ end
   unfolding fields_from
-  laid_end out place lo i h inv = sym (put_nil out place) ∙ (rw (drop_of_length-le es h) at inv)
+  laid_end out place before step k l h inv = sym (put_nil out place) ∙ (rw (drop_of_length-le es (all_laid es pairs place before step k l h)) at inv)
 
 -- the entries behind the count
 pub laid_group : (es out₀ out : List ℕ) (place : ℕ) → length (group_bytes es) ≤ length out₀ → place ≡ 0 + length (leb128 (length es / 2)) → out ≡ put out₀ 0 (leb128 (length es / 2)) → put out place (fields_from 0 es) ≡ put out₀ 0 (group_bytes es)
@@ -120,3 +132,11 @@ laid_group es out₀ out place h ep eo =
 pub count_first : (es : List ℕ) → length (leb128 (length es / 2)) ≤ length (group_bytes es)
 unfolding group_bytes
 count_first es = omega (arith, length-append (leb128 (length es / 2)) (fields_from 0 es))
+
+-- ---- a room that every group of so many words fits
+pub fits_all : (es : List ℕ) (room : ℕ) → IsGroup es → 7 * length es + 2 ≤ room → leb (length (group_bytes es)) room ≡ true
+fits_all es room h r = le-leb (length (group_bytes es)) room (omega (arith, group_by_words es h))
+
+pub ruleset fit = (group_few, fits_all, le-leb)
+
+pub ruleset layings = (laying_none, laying_turn, laying_more, laying_end, laid_end, laid_group, count_first)

@@ -5,3 +5,4 @@ pub mod Gaps
 pub mod Groupings
 pub mod Judgings
 pub mod Layings
+pub mod Pairs

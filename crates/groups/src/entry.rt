@@ -4,61 +4,46 @@ ghost use Rattle.groups.specs.Decoding.{Enters, two_at};
 
 use rules::M;
 
-// The largest id.
-const MOST: u64 = 18446744073709551615;
-
-// An entry that stands at a place: its id, its length and the place behind it; or that none stands there.
-#[derive(Drop)]
-pub(crate) enum Entry {
-    Taken(u64, u64, usize),
-    NoEntry,
+// An entry that stands at a place, and the place behind it.
+#[derive(Clone, Copy)]
+pub(crate) struct Entry {
+    pub(crate) id: u64,
+    pub(crate) length: u64,
+    pub(crate) behind: usize,
 }
 
-// Two numbers that stand one behind the other, and the place behind them; or that one of them does not stand there.
-#[derive(Drop)]
-pub(crate) enum Two {
-    Numbers(u64, u64, usize),
-    Missing,
-}
-
-// The two numbers of an entry. They are read in a loop so that one call reads every number of a group: the compiler then puts the reader into the loop, and what
-// was read does not go through memory.
-fn read_two(bytes: &[u8], at: usize) -> Two
+// The two numbers of an entry, and the place behind them. They are read in a loop so that one call reads every number of a group: the compiler then puts the
+// reader into the loop, and what was read does not go through memory.
+#[tactic(auto, using(crate::proofs::Entries::two_turns), unfolding(crate::specs::Decoding::two_at))]
+fn read_two(bytes: &[u8], at: usize) -> Option<(u64, u64, usize)>
     ensures { result ≡ two_at bytes.now at }
 {
     let mut place = at;
-    let mut first: u64 = 0;
-    let mut second: u64 = 0;
-    let mut k: usize = 0;
-    while k < 2 {
-        let Some((n, behind)) = leb::read_leb(bytes, place) else {
-            return Two::Missing;
-        };
+    let mut first = 0;
+    let mut second = 0;
+    for _ in 0..2usize {
+        let (n, behind) = leb::read_leb(bytes, place)?;
         first = second;
         second = n;
         place = behind;
-        k += 1;
     }
-    Two::Numbers(first, second, place)
+    Some((first, second, place))
 }
 
-// The entry at a place, whose id is at least `before` and `step` more: 0 and 0 for the first entry, and 1 above the id before for the others. That sum can
-// leave 64 bits, so it is tested before it is made.
-pub(crate) fn read_entry(bytes: &[u8], at: usize, before: u64, step: u64) -> Entry
+// The entry at a place, whose id is at least `before` and `step` more: 0 and 0 for the first entry, and 1 above the id before for the others. An id that leaves
+// 64 bits is none.
+#[tactic(auto, using(crate::proofs::Entries::an_entry_read))]
+pub(crate) fn read_entry(bytes: &[u8], at: usize, before: u64, step: u64) -> Option<Entry>
     ensures { Enters bytes.now at (before + step) result }
 {
-    let Two::Numbers(gap, less, behind) = read_two(bytes, at) else {
-        return Entry::NoEntry;
-    };
+    let (gap, less, behind) = read_two(bytes, at)?;
     if less >= M {
-        return Entry::NoEntry;
+        return None;
     }
-    let above = MOST - before;
-    if above < step {
-        return Entry::NoEntry;
-    }
-    if above - step < gap {
-        return Entry::NoEntry;
-    }
-    Entry::Taken(before + step + gap, less + 1, behind)
+    let id = before.checked_add(step)?.checked_add(gap)?;
+    Some(Entry {
+        id,
+        length: less + 1,
+        behind,
+    })
 }

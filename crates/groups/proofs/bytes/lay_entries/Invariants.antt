@@ -1,12 +1,7 @@
 -- `groups::bytes::lay_entries`: kept by the loop is `Filling`.
-use Prim.Native.Nat.{◌+◌, ◌-◌}
-use mathlib.Core.Path.{◌≡◌}
-use lib.ListN.{length}
+use Prim.Native.Nat.{◌+◌}
 use Rattle.groups.proofs.Fillings.{Filling}
 use Rattle.groups.proofs.bytes.lay_entries.Given as goal
 
 abbrev pub invariant-loop-k : goal.invariant-loop-k
-invariant-loop-k l = (Filling l.bytes l.at l.count l.words l.place (l.before + l.step) l.k) × (length l.words ≡ length l.initial.words)
-
-abbrev pub decreases-loop-k : goal.decreases-loop-k
-decreases-loop-k l = l.count - l.k
+invariant-loop-k l = Filling l.bytes l.at l.count l.words l.place (l.before + l.step) l.k

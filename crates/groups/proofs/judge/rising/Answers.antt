@@ -1,19 +1,17 @@
--- `groups::judge::rising`: `two` says that an entry is whole where it begins.
-use Prim.Native.Nat.{◌+◌, ◌<◌}
+-- `groups::judge::rising`, from the first entry over one more to the end.
 use native.Mathlib.Omega.{arith}
-use lib.ListN.{length}
 use Rattle.groups.proofs.Judgings.{rising_first, rising_more, rising_end}
 use Rattle.groups.proofs.judge.rising.Goals as goal
 
-pub loop-i-init : goal.loop-i-init
-loop-i-init c = (omega arith, omega arith, rising_first _ (omega arith) (omega (arith, c.type_inv.entries 0)))
+pub loop-id-init : goal.loop-id-init
+loop-id-init c = rising_first _ _ (λ i. omega (arith, c.type_inv.entries i)) c.as_chunks.ensures.front (omega arith)
 
-pub loop-i-preserved : goal.loop-i-preserved
-loop-i-preserved c =
-    let l = c.loop-i in
-    let two : l.i + 1 < length c.args.entries.now = omega (arith, c.requires) in
-    (omega arith, omega arith, rising_more _ l.i l.before l.ok _ two (omega (arith, c.type_inv.entries l.i)) l.invariant.2)
+pub loop-id-preserved : goal.loop-id-preserved
+loop-id-preserved c =
+    let l = c.loop-id in
+    rising_more _ _ (λ i. omega (arith, c.type_inv.entries i)) c.as_chunks.ensures.front l.id-index l.before l.ok _ c.loop-id-test.true l.invariant
 
 pub returns : goal.returns
-returns c = let l = c.loop-i in
-    rising_end _ l.i _ l.ok _ c.loop-i-test.false l.invariant.2
+returns c =
+    let l = c.loop-id in
+    rising_end _ _ (λ i. omega (arith, c.type_inv.entries i)) c.as_chunks.ensures.front l.id-index _ l.ok _ c.requires.1 c.loop-id-test.false l.invariant

@@ -1,38 +1,32 @@
 -- `groups::read::read_group`: no group, too few words, or the entries copied.
-use mathlib.Core.Path.{ap, subst, ◌∙◌}
+use mathlib.Core.Path.{◌≡◌, refl}
+use Prim.Native.Nat.{ℕ}
 use native.Mathlib.Omega.{arith}
-use Prim.Native.Nat.{◌*◌, ◌≤◌}
-use lib.ListN.{length}
-use Rattle.rules.specs.meaning.Put.{put}
-use Rattle.rules.specs.meaning.Groups.{group_of}
-use Rattle.groups.specs.Decoding.{Decodes}
-use Rattle.groups.proofs.Answers.{entered_none, entered_short, entered_all, some, none, twice, decoded_front}
+use Rattle.std.specs.Option.{ok_or}
+use Rattle.std.specs.Prelude.{Option, Some, None, Err}
+use Rattle.std.proofs.lemmas.Result.{err_from_is_err_and}
+use Rattle.rules.specs.declared.Refusal.{Refusal}
+use Rattle.rules.specs.declared.Refusal.TheVariants.{NoGroup}
+use Rattle.groups.proofs.Answers.{decoded_none, decoded_long, decoded_all}
 use Rattle.groups.proofs.read.read_group.Goals as goal
 
-pub returns-in_default : goal.returns-in_default
-returns-in_default c =
-    entered_none _ _ (none _ (subst (λ r. Decodes (group_of c.args.bytes.now) r c.decode.new.words) c.in_default.is c.decode.ensures))
+-- the refusal of a value that is missing
+was_none : (o : Option ℕ) (r : Refusal) → Err r ≡ ok_or o NoGroup → (o ≡ None) × (r ≡ NoGroup)
+was_none None r e = (refl, cc)
+was_none (Some n) r e = cc
 
-pub overflow_mul-count : goal.overflow_mul-count
-overflow_mul-count c =
-    let d = subst (λ r. Decodes (group_of c.args.bytes.now) r c.decode.new.words) c.in-Entries.is c.decode.ensures in
-    omega (arith, d.1)
+pub returns-in_err-count : goal.returns-in_err-count
+returns-in_err-count c =
+    let p = err_from_is_err_and c.from_residual.result c.from_residual.ensures.1 in
+    let w = was_none c.decode.result c.in_err-count.field-0.0 c.in_err-count.ensures.value in
+    rw (p.1, p.2, w.1) (decoded_none _ _ _ (rw w.0 at c.decode.ensures))
 
-pub returns-then-entries-count : goal.returns-then-entries-count
-returns-then-entries-count c =
-    let d = subst (λ r. Decodes (group_of c.args.bytes.now) r c.decode.new.words) c.in-Entries.is c.decode.ensures in
-    let within : 2 * c.in-Entries.count ≤ length c.decode.new.words = omega (arith, d.1, c.decode.auto.words) in
-    entered_short _ _ (some _ _ c.in-Entries.count within d.0) (omega (arith, c.if-entries-count.true, twice _ _ c.in-Entries.count within d.0))
-
-pub copy-requires : goal.copy-requires
-copy-requires c =
-    let d = subst (λ r. Decodes (group_of c.args.bytes.now) r c.decode.new.words) c.in-Entries.is c.decode.ensures in
-    (omega (arith, d.1, c.decode.auto.words), c.if-entries-count.false)
+pub returns-then-entries-many : goal.returns-then-entries-many
+returns-then-entries-many c =
+    let d = rw c.in_ok-count.ensures.ok_part at c.decode.ensures in
+    decoded_long _ _ _ d _ (omega arith) c.if-entries-many.true
 
 pub returns : goal.returns
 returns c =
-    let d = subst (λ r. Decodes (group_of c.args.bytes.now) r c.decode.new.words) c.in-Entries.is c.decode.ensures in
-    let within : 2 * c.in-Entries.count ≤ length c.decode.new.words = omega (arith, d.1, c.decode.auto.words) in
-    let counted = twice _ _ c.in-Entries.count within d.0 in
-    entered_all _ _ (some _ _ c.in-Entries.count within d.0) _ _ (omega (arith, counted, c.if-entries-count.false)) (omega (arith, counted))
-    (c.copy.ensures ∙ ap (put _ 0) (decoded_front _ _ c.in-Entries.count within d.0))
+    let d = rw c.in_ok-count.ensures.ok_part at c.decode.ensures in
+    decoded_all _ _ _ d _ (omega arith) _ c.if-entries-many.false c.copy_from_slice.ensures.after
