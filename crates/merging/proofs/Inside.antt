@@ -145,28 +145,12 @@ module _ {ws : List ℕ} {to from wide : ℕ} {us : List ℕ} {i j p : ℕ} (f :
     unfolding second
     at_source k l = part_word us from (length us - from) (2 * (b + k)) (omega (arith, fits_others)) ∙ source_word (2 * (b + k)) (omega arith)
 
-    pub stretched : ((id_at (take (length us - to) (drop to us)) a ≡ id_at (take (length us - from) (drop from us)) b)
-        × (id_at (take (length us - to) (drop to us)) (a + 1) ≡ id_at (take (length us - from) (drop from us)) (b + 1)))
-        × ((id_at (take (length us - to) (drop to us)) (a + 2) ≡ id_at (take (length us - from) (drop from us)) (b + 2))
-        × (id_at (take (length us - to) (drop to us)) (a + 3) ≡ id_at (take (length us - from) (drop from us)) (b + 3))) → same_ids ws to from wide i j 4
+    pub stretched : ((q : ℕ) → q < 4 → id_at (take (length us - to) (drop to us)) (a + q) ≡ id_at (take (length us - from) (drop from us)) (b + q)) → same_ids ws to from wide i j 4
     unfolding first second
-    stretched e = go
-      where
-        one : (k q : ℕ) → k + q ≡ 3 → id_at first (a + k) ≡ id_at second (b + k) → id_at (part_at ws to wide) (i - 1 - q) ≡ id_at (part_at ws from wide) (j - 1 - q)
-        one k q n h =
-            let x : i - 1 - q ≡ a + k = omega arith in
-            let y : j - 1 - q ≡ b + k = omega arith in
-            rw (x, y) (sym (at_own k (omega arith)) ∙ h ∙ at_source k (omega arith))
-
-        plus_none : (n : ℕ) → n + 0 ≡ n
-        plus_none n = omega arith
-
-        go : (q : ℕ) → q < 4 → id_at (part_at ws to wide) (i - 1 - q) ≡ id_at (part_at ws from wide) (j - 1 - q)
-        go zero l = one 3 0 (omega arith) e.1.1
-        go (suc zero) l = one 2 1 (omega arith) e.1.0
-        go (suc (suc zero)) l = one 1 2 (omega arith) e.0.1
-        go (suc (suc (suc zero))) l = one 0 3 (omega arith) (rw (plus_none a, plus_none b) e.0.0)
-        go (suc (suc (suc (suc q)))) l = absurd (omega arith)
+    stretched e q l =
+        let x : i - 1 - q ≡ a + (3 - q) = omega arith in
+        let y : j - 1 - q ≡ b + (3 - q) = omega arith in
+        rw (x, y) (sym (at_own (3 - q) (omega arith)) ∙ e (3 - q) (omega arith) ∙ at_source (3 - q) (omega arith))
 
   -- no entry of the source is left
   pub finished : j ≤ 0 → us ≡ take to ws ++ (merged (part_at ws to wide) (part_at ws from wide) ++ drop wide (drop to ws))

@@ -9,48 +9,19 @@ use rules::Answer;
 use tally::{FEW, count, told};
 
 // The table is filled from the back until no entry is left to join in: what is left of the table then stands in its place.
-fn fill_evenly(table: &mut [u64], entries: &[u64], left: Left)
+// Where few entries go into a long table, all that is above the next one moves on first, which is foreseen.
+fn fill_by<const SPARSE: bool>(table: &mut [u64], entries: &[u64], left: Left)
     requires { Joining table.old entries.now (λ q. get_or table.old q 0) left.own left.others left.place }
     ensures { table.new ≡ merged table.old entries.now }
 {
-    let mut own = left.own;
-    let mut others = left.others;
-    let mut place = left.place;
-    while 0 < others {
-        let before = Left { own, others, place };
-        let next = turn(
-            table,
-            before,
-            entries[2 * others - 2],
-            entries[2 * others - 1],
-        );
-        own = next.own;
-        others = next.others;
-        place = next.place;
-    }
-}
-
-// The same for few entries in a long table: all that is above the next one moves on first, which is foreseen.
-fn fill_sparsely(table: &mut [u64], entries: &[u64], left: Left)
-    requires { Joining table.old entries.now (λ q. get_or table.old q 0) left.own left.others left.place }
-    ensures { table.new ≡ merged table.old entries.now }
-{
-    let mut own = left.own;
-    let mut few = left.others;
-    let mut place = left.place;
-    while 0 < few {
-        let before = Left {
-            own,
-            others: few,
-            place,
-        };
-        let id = entries[2 * few - 2];
-        let length = entries[2 * few - 1];
-        let there = slide(table, before, id);
-        let next = turn(table, there, id, length);
-        own = next.own;
-        few = next.others;
-        place = next.place;
+    let mut left = left;
+    while 0 < left.others {
+        let id = entries[2 * left.others - 2];
+        let length = entries[2 * left.others - 1];
+        if SPARSE {
+            left = slide(table, left, id);
+        }
+        left = turn(table, left, id, length);
     }
 }
 
@@ -60,9 +31,9 @@ fn fill(table: &mut [u64], entries: &[u64], left: Left)
     ensures { table.new ≡ merged table.old entries.now }
 {
     if left.others <= left.own / FEW {
-        fill_sparsely(table, entries, left);
+        fill_by::<true>(table, entries, left);
     } else {
-        fill_evenly(table, entries, left);
+        fill_by::<false>(table, entries, left);
     }
 }
 
@@ -79,11 +50,6 @@ pub fn merge(table: &mut [u64], entries: &[u64]) -> Answer
     if said.value == 0 {
         return said;
     }
-    let left = Left {
-        own: comes.own,
-        others: comes.others,
-        place: comes.held,
-    };
-    fill(table, entries, left);
+    fill(table, entries, Left::from(comes));
     said
 }

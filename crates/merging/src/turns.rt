@@ -4,6 +4,7 @@ ghost use Rattle.rules.specs.meaning.Table.{id_at, length_at};
 ghost use Rattle.merging.specs.Walks.{Joining};
 
 use lengths::join;
+use tally::Tally;
 
 // What is left to place: entries of the table, entries of the source, and the place from which on the merged table stands.
 #[derive(Clone, Copy)]
@@ -11,6 +12,32 @@ pub(crate) struct Left {
     pub own: usize,
     pub others: usize,
     pub place: usize,
+}
+
+impl From<Tally> for Left {
+    ghost from_gives = { λ comes left. (left.own ≡ comes.own) × (left.others ≡ comes.others) × (left.place ≡ comes.held) };
+
+    fn from(comes: Tally) -> Left {
+        Left {
+            own: comes.own,
+            others: comes.others,
+            place: comes.held,
+        }
+    }
+}
+
+impl Left {
+    // One more entry is placed, which takes so many of the table and of the source.
+    pub fn less(self, own: usize, others: usize) -> Left
+        requires { (own ≤ self.own) × (others ≤ self.others) × (1 ≤ self.place) }
+        ensures { (result.own ≡ self.own - own) × (result.others ≡ self.others - others) × (result.place ≡ self.place - 1) }
+    {
+        Left {
+            own: self.own - own,
+            others: self.others - others,
+            place: self.place - 1,
+        }
+    }
 }
 
 // One turn by value: the entry that is placed, how many entries of the table and of the source that takes, and the last ids that are left then.
@@ -46,8 +73,8 @@ pub(crate) fn settle(mine: u64, under: u64, kept: u64, id: u64, next: u64, lengt
     Settled {
         id: pick(on, mine, id),
         length: pick(on & other_on, most, one),
-        own: on as usize,
-        others: other_on as usize,
+        own: usize::from(on),
+        others: usize::from(other_on),
         mine: pick(on, under, mine),
         last: pick(id < mine, id, next),
     }
@@ -68,35 +95,16 @@ pub(crate) fn turn(table: &mut [u64], left: Left, id: u64, length: u64) -> Left
     ensures by_index { (t s : List ℕ) → Joining t s (λ q. get_or table.old q 0) left.own left.others left.place → id ≡ id_at s (left.others - 1) → length ≡ length_at s (left.others - 1) → Joining t s (λ q. get_or table.new q 0) result.own result.others result.place }
     ensures place_lt_place { (result.place < left.place) × (size table.new ≡ size table.old) }
 {
-    let own = left.own;
-    let others = left.others;
     let place = left.place - 1;
-    if own == 0 {
+    if left.own == 0 {
         put(table, 2 * place, id, length);
-        return Left {
-            own: 0,
-            others: others - 1,
-            place,
-        };
+        return left.less(0, 1);
     }
-    let now = settle(table[2 * own - 2], 0, table[2 * own - 1], id, 0, length);
+    let mine = table[2 * left.own - 2];
+    let kept = table[2 * left.own - 1];
+    let now = settle(mine, 0, kept, id, 0, length);
     put(table, 2 * place, now.id, now.length);
-    Left {
-        own: own - now.own,
-        others: others - now.others,
-        place,
-    }
-}
-
-// Whether the last entry that is left of a table is above an id.
-fn above(table: &[u64], own: usize, id: u64) -> bool
-    requires { 2 * own ≤ size table.now }
-    ensures { result ≡ true → (1 ≤ own) × (id < get_or table.now (2 * own - 2) 0) }
-{
-    if own == 0 {
-        return false;
-    }
-    id < table[2 * own - 2]
+    left.less(now.own, now.others)
 }
 
 // All entries of the table that are above the last id that is left of the source move on, one after the other.
@@ -105,18 +113,12 @@ pub(crate) fn slide(table: &mut [u64], left: Left, id: u64) -> Left
     ensures by_index { (t s : List ℕ) → Joining t s (λ q. get_or table.old q 0) left.own left.others left.place → id ≡ id_at s (left.others - 1) → Joining t s (λ q. get_or table.new q 0) result.own result.others result.place }
     ensures others_value { (result.others ≡ left.others) × (result.place ≤ left.place) × (size table.new ≡ size table.old) }
 {
-    let mut own = left.own;
-    let mut place = left.place;
-    while above(table, own, id) {
-        own = own - 1;
-        place = place - 1;
-        let mine = table[2 * own];
-        let kept = table[2 * own + 1];
-        put(table, 2 * place, mine, kept);
+    let mut left = left;
+    while 0 < left.own && id < table[2 * left.own - 2] {
+        let mine = table[2 * left.own - 2];
+        let kept = table[2 * left.own - 1];
+        left = left.less(1, 0);
+        put(table, 2 * left.place, mine, kept);
     }
-    Left {
-        own,
-        others: left.others,
-        place,
-    }
+    left
 }

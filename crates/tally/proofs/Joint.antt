@@ -2,6 +2,7 @@
 -- Assumes nothing.
 use Prim.Native.Nat.{ℕ, zero, suc, ◌+◌, ◌*◌, ◌-◌, ◌≤◌, ◌<◌}
 use native.Mathlib.Nat.{le_refl, eq-or-lt_of_le}
+use native.Mathlib.Numerals.{add-one}
 use native.Mathlib.Omega.{arith}
 use mathlib.Core.Bool.{Bool, true, false, cond, ◌&&◌}
 use mathlib.Core.Path.{◌≡◌, refl, sym, ap, ◌∙◌}
@@ -45,13 +46,47 @@ unfolding new_ids rises
 none_left t none = (refl, refl)
 none_left t (pair z) = (refl, refl)
 
+-- the tests at the first k places from i and j on
+unfoldable pub same_upto : (t s : List ℕ) (i j k : ℕ) → Bool
+same_upto t s i j zero = true
+same_upto t s i j (suc k) = same_upto t s i j k && eqb (id_at t (i + k)) (id_at s (j + k))
+
+-- one more of them
+pub same_more : (t s : List ℕ) (i j k : ℕ) → same_upto t s i j (k + 1) ≡ same_upto t s i j k && eqb (id_at t (i + k)) (id_at s (j + k))
+unfolding same_upto
+same_more t s i j k = rw add-one
+
+pub same_four : (t s : List ℕ) (i j : ℕ) → same_upto t s i j 4
+    ≡ (eqb (id_at t i) (id_at s j) && eqb (id_at t (i + 1)) (id_at s (j + 1))) && (eqb (id_at t (i + 2)) (id_at s (j + 2)) && eqb (id_at t (i + 3)) (id_at s (j + 3)))
+unfolding same_upto
+same_four t s i j =
+    rw (plus_none i, plus_none j)
+    (in_pairs (eqb (id_at t i) (id_at s j)) (eqb (id_at t (i + 1)) (id_at s (j + 1))) (eqb (id_at t (i + 2)) (id_at s (j + 2))) (eqb (id_at t (i + 3)) (id_at s (j + 3))))
+  where
+    plus_none : (n : ℕ) → n + 0 ≡ n
+    plus_none n = omega arith
+
+    in_pairs : (a b d e : Bool) → ((a && b) && d) && e ≡ (a && b) && (d && e)
+    in_pairs true true d e = refl
+    in_pairs true false d e = refl
+    in_pairs false b d e = refl
+
+-- where all of them hold, the ids are the same one by one
+pub same_each : (t s : List ℕ) (i j k : ℕ) → same_upto t s i j k ≡ true → (q : ℕ) → q < k → id_at t (i + q) ≡ id_at s (j + q)
+unfolding same_upto
+same_each t s i j zero h q l = absurd (omega arith)
+same_each t s i j (suc k) h q l =
+    let both = parts (same_upto t s i j k) (eqb (id_at t (i + k)) (id_at s (j + k))) h in
+    ⊎_elim (λ e. rw e (eqb-true _ _ both.1)) (λ m. same_each t s i j k both.0 q m) (eq-or-lt_of_le (upto l))
+  where
+    upto : q < suc k → q ≤ k
+    upto m = omega arith
+
 -- four tests in one
-pub four_alike : (a b d e a' b' d' e' : ℕ) {r : Bool} → r ≡ (eqb a a' && eqb b b') && (eqb d d' && eqb e e') → r ≡ true → ((a ≡ a') × (b ≡ b')) × ((d ≡ d') × (e ≡ e'))
-four_alike a b d e a' b' d' e' q h =
-    let whole = parts (eqb a a' && eqb b b') (eqb d d' && eqb e e') (sym q ∙ h) in
-    let first = parts (eqb a a') (eqb b b') whole.0 in
-    let last = parts (eqb d d') (eqb e e') whole.1 in
-    ((eqb-true a a' first.0, eqb-true b b' first.1), (eqb-true d d' last.0, eqb-true e e' last.1))
+pub four_alike : (t s : List ℕ) (i j : ℕ) {r : Bool}
+    → r ≡ (eqb (id_at t i) (id_at s j) && eqb (id_at t (i + 1)) (id_at s (j + 1))) && (eqb (id_at t (i + 2)) (id_at s (j + 2)) && eqb (id_at t (i + 3)) (id_at s (j + 3)))
+    → r ≡ true → (q : ℕ) → q < 4 → id_at t (i + q) ≡ id_at s (j + q)
+four_alike t s i j e h = same_each t s i j 4 (same_four t s i j ∙ sym e ∙ h)
 
 -- a count raised by 1 where a test holds
 counted : (b : Bool) (n r : ℕ) → (n + cond b 1 0) + r ≡ n + cond b (suc r) r
@@ -166,24 +201,10 @@ module _ {most : ℕ} {t s : List ℕ} (wt : Laid most t (held t)) (ws : Laid mo
       let still : rises t (drop (2 * j) s) ≡ 0 = rw e (ended wt ws).1 in
       (omega (arith, c.all_new, left), omega (arith, c.all_risen, still))
 
-  -- ---- several turns at once
-  moved : {total risen i j : ℕ} → Walk t s total risen i j → (total' risen' i' j' : ℕ) → total' ≡ total → risen' ≡ risen → i' ≡ i → j' ≡ j
+  -- ---- the same turns, counted in another way
+  pub moved : {total risen i j : ℕ} → Walk t s total risen i j → (total' risen' i' j' : ℕ) → total' ≡ total → risen' ≡ risen → i' ≡ i → j' ≡ j
       → Walk t s total' risen' i' j'
   moved w total' risen' i' j' a b d e = rw (a, b, d, e) w
-
-  pub walk_four : (total risen i j : ℕ) → Walk t s total risen i j → i + 4 ≤ held t → j + 4 ≤ held s
-      → ((id_at t i ≡ id_at s j) × (id_at t (i + 1) ≡ id_at s (j + 1))) × ((id_at t (i + 2) ≡ id_at s (j + 2)) × (id_at t (i + 3) ≡ id_at s (j + 3)))
-      → (p q u v : ℕ)
-      → (p ≡ cond (ltb (length_at t i) (length_at s j)) 1 0) × (p ≤ 1)
-      → (q ≡ cond (ltb (length_at t (i + 1)) (length_at s (j + 1))) 1 0) × (q ≤ 1)
-      → (u ≡ cond (ltb (length_at t (i + 2)) (length_at s (j + 2))) 1 0) × (u ≤ 1)
-      → (v ≡ cond (ltb (length_at t (i + 3)) (length_at s (j + 3))) 1 0) × (v ≤ 1)
-      → Walk t s total (risen + p + q + u + v) (i + 4) (j + 4)
-  walk_four total risen i j c li lj ids p q u v hp hq hu hv =
-      let one = walk_both total risen i j c (omega arith) (omega arith) ids.0.0 p hp.0 hp.1 in
-      let two = moved (walk_both total (risen + p) (i + 1) (j + 1) one (omega arith) (omega arith) ids.0.1 q hq.0 hq.1) total (risen + p + q) (i + 2) (j + 2) refl refl (omega arith) (omega arith) in
-      let three = moved (walk_both total (risen + p + q) (i + 2) (j + 2) two (omega arith) (omega arith) ids.1.0 u hu.0 hu.1) total (risen + p + q + u) (i + 3) (j + 3) refl refl (omega arith) (omega arith) in
-      moved (walk_both total (risen + p + q + u) (i + 3) (j + 3) three (omega arith) (omega arith) ids.1.1 v hv.0 hv.1) total (risen + p + q + u + v) (i + 4) (j + 4) refl refl (omega arith) (omega arith)
 
   -- ---- turns by value
   pub turns_none : {total risen i j : ℕ} → Walk t s total risen i j → Turns t s total i j 0 i j risen (id_at t i) (id_at s j)

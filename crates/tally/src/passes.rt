@@ -16,7 +16,7 @@ pub(crate) struct Passed {
 pub(crate) fn rise(own: u64, other: u64) -> u64
     ensures { (result ≡ cond (ltb own other) 1 0) × (result ≤ 1) }
 {
-    if own < other { 1 } else { 0 }
+    u64::from(own < other)
 }
 
 // The smaller id is passed, a common one in both tables. Nobody can foresee which it is, so no branch depends on it: the tests' bits are added.
@@ -30,22 +30,22 @@ pub(crate) fn pass(mine: u64, after: u64, kept: u64, id: u64, next: u64, length:
     let other_on = id <= mine;
     let rises = on & other_on & (kept < length);
     Passed {
-        own: on as usize,
-        others: other_on as usize,
+        own: usize::from(on),
+        others: usize::from(other_on),
         mine: if on { after } else { mine },
         id: if other_on { next } else { id },
-        rises: rises as u64,
+        rises: u64::from(rises),
     }
 }
 
-// Whether four ids from a place on are those of four others.
+// Whether four ids from a place on are those of four others. All four are compared, with no early exit.
 pub fn alike(table: &[u64], entries: &[u64], own: usize, others: usize) -> bool
     requires { (2 * (own + 4) ≤ size table.now) × (2 * (others + 4) ≤ size entries.now) }
     ensures { result ≡ (eqb (id_at table.now own) (id_at entries.now others) && eqb (id_at table.now (own + 1)) (id_at entries.now (others + 1))) && (eqb (id_at table.now (own + 2)) (id_at entries.now (others + 2)) && eqb (id_at table.now (own + 3)) (id_at entries.now (others + 3))) }
 {
-    let first = (table[2 * own] == entries[2 * others])
-        & (table[2 * (own + 1)] == entries[2 * (others + 1)]);
-    let last = (table[2 * (own + 2)] == entries[2 * (others + 2)])
-        & (table[2 * (own + 3)] == entries[2 * (others + 3)]);
-    first & last
+    let mut same = true;
+    for k in 0..4 {
+        same &= table[2 * (own + k)] == entries[2 * (others + k)];
+    }
+    same
 }

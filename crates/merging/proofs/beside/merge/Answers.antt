@@ -18,8 +18,9 @@ pub fill-requires : goal.fill-requires
 fill-requires c =
     let held = c.count-comes.ensures.own_value in
     let n = c.count-comes.ensures.held_value in
+    let left = c.from.ensures in
     let some = some_told c.args.table.now c.args.entries.now _ _ _ _ refl n.0 n.1 c.told-said.ensures c.if-said-eq0.false in
-    rw (held.0, held.1, n.0) (joining_start c.args.table.now c.args.entries.now _ c.requires.sound_table c.requires.sound_table_2 (omega (arith, some.0)) (λ q l. refl))
+    rw (left.0, left.1, left.2, held.0, held.1, n.0) (joining_start c.args.table.now c.args.entries.now _ c.requires.sound_table c.requires.sound_table_2 (omega (arith, some.0)) (λ q l. refl))
 
 pub returns : goal.returns
 returns c =

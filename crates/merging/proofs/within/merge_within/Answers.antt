@@ -21,8 +21,9 @@ fill-requires c =
     let room : c.args.wide / 2 ≡ capacity (part_at c.args.words.now c.args.to c.args.wide) = rw (part_length c.args.words.now c.args.to c.args.wide c.requires.apart.fits_to) in
     let held = c.survey-comes.ensures.own_value in
     let n = c.survey-comes.ensures.held_value in
+    let left = c.from.ensures in
     let some = some_told (part_at c.args.words.now c.args.to c.args.wide) (part_at c.args.words.now c.args.from c.args.wide) _ _ _ _ room n.0 n.1 c.told-said.ensures c.if-said-eq0.false in
-    rw (held.0, held.1, n.0) (filling_start c.args.words.now c.args.to c.args.from c.args.wide c.requires.apart c.requires.sound_table c.requires.sound_table_2 some.0)
+    rw (left.0, left.1, left.2, held.0, held.1, n.0) (filling_start c.args.words.now c.args.to c.args.from c.args.wide c.requires.apart c.requires.sound_table c.requires.sound_table_2 some.0)
 
 pub returns : goal.returns
 returns c =
