@@ -21,8 +21,7 @@ use Rattle.rules.proofs.laws.report.Fits.{report_done, report_starts, report_fit
 use Rattle.rules.proofs.laws.report.Parts.{end_within}
 use Rattle.rules.proofs.laws.report.Places.{report_line_at, report_byte_at, report_unended_at, start_sound, state_sound}
 use Rattle.report.specs.Said.{Sayable, Said}
-use Rattle.report.specs.declared.ahead.Ahead.{Ahead}
-use Rattle.report.specs.Ahead.{Within, Ends, refused_as, asked_step, ahead, Next}
+use Rattle.report.specs.Ahead.{Within, Ends, refused_as, asked_step, Next}
 use Rattle.report.proofs.Saying.{Still, still_all, still_as, still_next, still_sayable}
 use Rattle.report.proofs.Words.{said_none, said_step, said_short}
 
@@ -74,14 +73,12 @@ module _ (input : List ℕ) (start : ℕ) where
         ∙ ap (λ (i : ℕ). report_from n s (slice start i input) (drop i input)) z
 
     -- the line is ended
-    pub next_line : (named : Option Step) (r : Ahead) → end < length input → named ≡ step_of (take (end - start) (drop start input)) → r ≡ ahead named (end + 1) → Next input start r
-    next_line named r h read is = subst (Next input start) (sym is) (record {
-      names = named;
-      is = refl;
+    pub next_line : (named : Option Step) → end < length input → named ≡ step_of (take (end - start) (drop start input)) → Next input start named (end + 1)
+    next_line named h read = record {
       behind = omega (arith, e.within.begun);
       inside = omega arith;
       report = λ n s. up_to n s ∙ report_line_at n s input start end h (e.ends h) ∙ goes_on n s;
-    })
+    }
       where
         same : step_of (slice start end input) ≡ named
         same = ap step_of (sym (part_is input start end e.within.begun)) ∙ sym read
@@ -92,15 +89,13 @@ module _ (input : List ℕ) (start : ℕ) where
         goes_on n s = rw (same, slice_empty (suc end) input, add-one end)
 
     -- or the input ends before it
-    pub next_unended : (r : Ahead) → start < length input → end ≡ length input → r ≡ ahead None end → Next input start r
+    pub next_unended : start < length input → end ≡ length input → Next input start None end
     unfolding named_after
-    next_unended r h at is = subst (Next input start) (sym is) (record {
-      names = None;
-      is = refl;
+    next_unended h at = record {
       behind = omega arith;
       inside = omega arith;
       report = λ n s. up_to n s ∙ ap (λ (i : ℕ). report_from n s (slice start i input) (drop i input)) at ∙ report_unended_at n s input start h ∙ goes_on n s;
-    })
+    }
       where
         goes_on : (n : ℕ) (s : State) → refused_line n 11 ++ end_lines s ≡ said_of n s None ++ report_from (suc n) s [] (drop end input)
         goes_on n s = rw (said_none n s None refl, at, drop-length input, report_done (suc n) s)
@@ -129,28 +124,26 @@ acted_says n s (Some step) a left did = (said_step n s (Some step) step a refl d
 acted_says n s None a left did = (said_none n s None refl ∙ rw did.answer, did.state)
 
 -- a line, where the inner step was asked for what the line asks for
-module _ (input first out : List ℕ) (s : State) (n start place : ℕ) (p : Passed input first out s n start place) (l : Ahead) (next : Next input start l)
-    (a : Answer) (left : State) (did : Acted l.refusal report_run s l.step a left) where
-  says : (said_of n s next.names ≡ line_by a.refusal n l.step a.value) × (left ≡ named_after report_run s next.names)
-  says =
-      let t = acted_says n s next.names a left (subst (λ (m : Ahead). Acted m.refusal report_run s m.step a left) next.is did) in
-      (t.0 ∙ ap (λ (m : Ahead). line_by a.refusal n m.step a.value) (sym next.is), t.1)
+module _ (input first out : List ℕ) (s : State) (n start place : ℕ) (p : Passed input first out s n start place) (names : Option Step) (next : ℕ) (ahead : Next input start names next)
+    (step : Step) (asks : step ≡ asked_step names) (refused : ℕ) (refuses : refused ≡ refused_as names) (a : Answer) (left : State) (did : Acted refused report_run s step a left) where
+  says : (said_of n s names ≡ line_by a.refusal n step a.value) × (left ≡ named_after report_run s names)
+  says = rw asks (acted_says n s names a left (rw (← refuses, ← asks) did))
 
-  line_left : Still out place (line_by a.refusal n l.step a.value ++ report_from (n + 1) left [] (drop l.next input)) (0 + length (report_of input)) (put first 0 (report_of input))
-  line_left = still_as (next.report n s ∙ rw (says.0, says.1, add-one n)) p.left
+  line_left : Still out place (line_by a.refusal n step a.value ++ report_from (n + 1) left [] (drop next input)) (0 + length (report_of input)) (put first 0 (report_of input))
+  line_left = still_as (ahead.report n s ∙ rw (says.0, says.1, add-one n)) p.left
 
-  pub line_sayable : length input ≤ input_limit → Sayable 99 out place (line_by a.refusal n l.step a.value)
+  pub line_sayable : length input ≤ input_limit → Sayable 99 out place (line_by a.refusal n step a.value)
   line_sayable small =
-      still_sayable 99 (line_by a.refusal n l.step a.value) _ line_left
-      (subst (λ (t : List ℕ). length t ≤ 99) says.0 (said_short n s next.names (omega (arith, p.count, p.inside))))
+      still_sayable 99 (line_by a.refusal n step a.value) _ line_left
+      (subst (λ (t : List ℕ). length t ≤ 99) says.0 (said_short n s names (omega (arith, p.count, p.inside))))
       (omega (arith, report_fits input small))
 
-  pub passed_line : (place' : ℕ) (after : List ℕ) → Said out place (line_by a.refusal n l.step a.value) place' after → length after ≡ length out → Passed input first after left (n + 1) l.next place'
+  pub passed_line : (place' : ℕ) (after : List ℕ) → Said out place (line_by a.refusal n step a.value) place' after → length after ≡ length out → Passed input first after left (n + 1) next place'
   passed_line place' after w long = record {
-    inside = next.inside;
-    count = omega (arith, p.count, next.behind);
-    sound = rw says.1 (state_sound s next.names p.sound);
-    left = still_next (line_by a.refusal n l.step a.value) _ line_left w long;
+    inside = ahead.inside;
+    count = omega (arith, p.count, ahead.behind);
+    sound = rw says.1 (state_sound s names p.sound);
+    left = still_next (line_by a.refusal n step a.value) _ line_left w long;
   }
 
 -- ---- the end of the input: only the end of the report is left

@@ -15,7 +15,7 @@ act-answer-requires c = ((λ _. c.loop-start.invariant.sound), omega arith)
 pub say_line-place-requires : goal.say_line-place-requires
 say_line-place-requires c =
     let l = c.loop-start in
-    line_sayable c.args.input.now c.args.out.now l.out (lent l.words l.slots l.ledger) l.n l.start l.place l.invariant c.next_line-line.result c.next_line-line.ensures
+    line_sayable c.args.input.now c.args.out.now l.out (lent l.words l.slots l.ledger) l.n l.start l.place l.invariant c.next_line.result.0 c.next_line.result.1 c.next_line.ensures c.asked.result.0 c.asked.ensures.step c.asked.result.1 c.asked.ensures.refused
     c.act-answer.result (lent c.act-answer.new.words c.act-answer.new.slots c.act-answer.new.ledger) c.act-answer.ensures c.requires.0
 
 pub overflow_add-n : goal.overflow_add-n
@@ -24,7 +24,7 @@ overflow_add-n c = omega (arith, c.loop-start.invariant.count, c.loop-start.inva
 pub loop-start-preserved : goal.loop-start-preserved
 loop-start-preserved c =
     let l = c.loop-start in
-    passed_line c.args.input.now c.args.out.now l.out (lent l.words l.slots l.ledger) l.n l.start l.place l.invariant c.next_line-line.result c.next_line-line.ensures
+    passed_line c.args.input.now c.args.out.now l.out (lent l.words l.slots l.ledger) l.n l.start l.place l.invariant c.next_line.result.0 c.next_line.result.1 c.next_line.ensures c.asked.result.0 c.asked.ensures.step c.asked.result.1 c.asked.ensures.refused
     c.act-answer.result (lent c.act-answer.new.words c.act-answer.new.slots c.act-answer.new.ledger) c.act-answer.ensures c.say_line-place.result c.say_line-place.new.out c.say_line-place.ensures c.say_line-place.auto.out
 
 pub say_ending-requires : goal.say_ending-requires
