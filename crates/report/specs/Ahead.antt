@@ -1,6 +1,6 @@
 -- The next line of the input, which begins at a place: where it ends, what it asks for, and how the report goes on behind it.
 -- Assumes nothing.
-use Rattle.std.specs.Prelude.{ℕ, suc, ◌≤◌, ◌<◌, ◌≡◌, List, [], ◌++◌, length, drop, get_or, Option, Some, None}
+use Rattle.std.specs.Prelude.{ℕ, suc, ◌≤◌, ◌<◌, ◌≡◌, List, [], ◌++◌, length, drop, get_or, ◌≢◌, Option, Some, None, MatchOption, EachIndex, slice_index}
 use Rattle.rules.specs.declared.Step.{Step}
 use Rattle.rules.specs.declared.Step.TheVariants.{Query}
 use Rattle.rules.specs.meaning.States.{State}
@@ -17,6 +17,11 @@ pub record Within (input : List ℕ) (start end : ℕ) : Type 0 where
 pub record Ends (input : List ℕ) (start end : ℕ) : Type 0 where
   pub within : Within input start end
   pub ends : end < length input → get_or input end 0 ≡ line_end
+
+-- how long the line at the front of a text is, if anything ends it
+abbrev pub IsLineLength : List ℕ → Option ℕ → Type 0
+IsLineLength rest r = MatchOption r (EachIndex rest (λ k. slice_index rest k ≢ line_end))
+    (λ n. (n < length rest) × (slice_index rest n ≡ line_end) × ((k : ℕ) → k < n → slice_index rest k ≢ line_end))
 
 -- what is asked of the inner step: where a line names no step, one that 11 keeps from being taken
 abbrev pub refused_as : Option Step → ℕ
