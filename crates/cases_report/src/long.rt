@@ -1,19 +1,7 @@
 // Inputs at the limit and one byte past it.
-ghost use Rattle.std.specs.Prelude.{◌≡◌, length};
-
 use crate::show::{two_ends, whole};
 use rules::INPUT_MAX;
 use std::io;
-
-// One byte more than is run.
-const OVER: usize = INPUT_MAX + 1;
-
-// Bytes that are all the same.
-fn filled<const N: usize>(b: u8) -> [u8; N]
-    ensures { length result ≡ N }
-{
-    [b; N]
-}
 
 // A text over and over until the buffer is full.
 fn repeat(text: &[u8], buffer: &mut [u8]) {
@@ -23,18 +11,18 @@ fn repeat(text: &[u8], buffer: &mut [u8]) {
 }
 
 fn past_the_limit(rt: &impl Print, out: &mut [u8]) -> io::Result<()> {
-    let mut input = filled::<OVER>(b'\n');
+    let mut input = [b'\n'; INPUT_MAX + 1];
     whole(rt, "-- 32,769 line ends\n", &input, out)?;
     repeat(b"step=query node=0 id=0\n", &mut input);
     whole(rt, "-- 32,769 bytes of queries\n", &input, out)
 }
 
 fn at_the_limit(rt: &impl Print, out: &mut [u8]) -> io::Result<()> {
-    let mut input = filled::<INPUT_MAX>(b'\n');
+    let mut input = [b'\n'; INPUT_MAX];
     two_ends(rt, "-- 32,768 line ends\n", &input, out)?;
     repeat(b"step=query node=0 id=0\n", &mut input);
     two_ends(rt, "-- 32,768 bytes of queries\n", &input, out)?;
-    let piece = filled::<INPUT_MAX>(b's');
+    let piece = [b's'; INPUT_MAX];
     two_ends(rt, "-- 32,768 bytes in one piece\n", &piece, out)
 }
 

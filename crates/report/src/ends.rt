@@ -74,6 +74,7 @@ fn write_ending(
 }
 
 // The same; but into an empty buffer nothing is written, and the ending is measured where no one sees it.
+// `say_line` does so with a line. One function for both is no plainer: it would take the writer as a closure, and say of that what these two say.
 pub(crate) fn say_ending(
     out: &mut [u8],
     place: usize,
