@@ -48,6 +48,12 @@ pub fn fresh_kept(first: u32) -> Kept
 pub fn step_kept(mut kept: Kept, run: Run, step: Step) -> Moved
     ensures { Stepped run (kept_state kept) step result.answer (kept_state result.kept) }
 {
-    let answer = sites::step(&mut kept.words, &mut kept.slots, &mut kept.ledger, run, step);
+    let answer = sites::step(
+        &mut kept.words,
+        &mut kept.slots,
+        &mut kept.ledger,
+        run,
+        step,
+    );
     Moved { kept, answer }
 }
