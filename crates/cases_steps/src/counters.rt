@@ -1,15 +1,14 @@
 // Counters at M.
 use crate::each_step::{again, deliver, lose, merge, query, send};
-use crate::made::{parcel_to, three_sites, twelve_sites, with_entry, with_ledger, with_parcel};
-use crate::print::text;
+use crate::made::{THREE_SITES, TWELVE_SITES, parcel_to, with_entry, with_ledger, with_parcel};
 use crate::show::show;
 use kept::fresh_kept;
 use rules::M;
 use std::io;
 
 fn only_lost_can_rise(rt: &impl Print) -> io::Result<()> {
-    text(rt, "sent, copied and absorbed at M: 3 sites, capacity 8\n")?;
-    let run = three_sites();
+    println!(rt; "sent, copied and absorbed at M: 3 sites, capacity 8")?;
+    let run = THREE_SITES;
     let s = with_entry(fresh_kept(0), 0, 7, 1);
     let s = with_parcel(s, 0, parcel_to(1, 7, 1));
     let s = with_ledger(s, M, M, M, M - 1);
@@ -24,8 +23,8 @@ fn only_lost_can_rise(rt: &impl Print) -> io::Result<()> {
 }
 
 fn only_absorbed_can_rise(rt: &impl Print) -> io::Result<()> {
-    text(rt, "sent, copied and lost at M: 3 sites, capacity 8\n")?;
-    let run = three_sites();
+    println!(rt; "sent, copied and lost at M: 3 sites, capacity 8")?;
+    let run = THREE_SITES;
     let s = with_parcel(fresh_kept(0), 0, parcel_to(1, 7, 1));
     let s = with_ledger(s, M, M, M - 1, M);
     let s = lose(rt, s, run, 0)?;
@@ -35,8 +34,8 @@ fn only_absorbed_can_rise(rt: &impl Print) -> io::Result<()> {
 }
 
 fn the_last_rise(rt: &impl Print) -> io::Result<()> {
-    text(rt, "sent and absorbed at M - 1: 3 sites, capacity 8\n")?;
-    let run = three_sites();
+    println!(rt; "sent and absorbed at M - 1: 3 sites, capacity 8")?;
+    let run = THREE_SITES;
     let s = with_entry(fresh_kept(0), 0, 7, 1);
     let s = with_ledger(s, M - 1, 0, M - 1, 0);
     let s = send(rt, s, run, 0, 1, 7)?;
@@ -46,11 +45,8 @@ fn the_last_rise(rt: &impl Print) -> io::Result<()> {
 }
 
 fn room_before_counter(rt: &impl Print) -> io::Result<()> {
-    text(
-        rt,
-        "8 before 10 on a delivery: site 1 full, absorbed at M; 12 sites, capacity 2\n",
-    )?;
-    let run = twelve_sites();
+    println!(rt; "8 before 10 on a delivery: site 1 full, absorbed at M; 12 sites, capacity 2")?;
+    let run = TWELVE_SITES;
     let s = with_entry(fresh_kept(0), 2, 7, 1);
     let s = with_entry(s, 3, 8, 1);
     let s = with_parcel(s, 0, parcel_to(1, 9, 1));

@@ -1,46 +1,26 @@
 // The eight steps: each is shown in the form of a step line, run, and its answer shown behind it.
-use crate::print::{number, text};
 use kept::Kept;
 use rules::{Answer, Run, Step};
 use std::io;
 
 fn say(rt: &impl Print, answer: Answer) -> io::Result<()> {
-    if answer.refusal == 0 {
-        number(rt, " value=", answer.value)?;
-    } else {
-        number(rt, " refused=", answer.refusal as u64)?;
+    match answer.refusal {
+        0 => println!(rt; " value={}", answer.value),
+        refusal => println!(rt; " refused={refusal}"),
     }
-    text(rt, "\n")
-}
-
-fn show_of_id(rt: &impl Print, kind: &str, site: u64, id: u64) -> io::Result<()> {
-    text(rt, kind)?;
-    number(rt, " node=", site)?;
-    number(rt, " id=", id)
-}
-
-fn show_between(rt: &impl Print, kind: &str, from: u64, to: u64) -> io::Result<()> {
-    text(rt, kind)?;
-    number(rt, " from=", from)?;
-    number(rt, " to=", to)
-}
-
-fn show_send(rt: &impl Print, from: u64, to: u64, id: u64) -> io::Result<()> {
-    show_between(rt, "step=send", from, to)?;
-    number(rt, " id=", id)
 }
 
 // The form of a step line.
 fn show_step(rt: &impl Print, step: Step) -> io::Result<()> {
     match step {
-        Step::Add { site, id } => show_of_id(rt, "step=add", site, id),
-        Step::Remove { site, id } => show_of_id(rt, "step=remove", site, id),
-        Step::Query { site, id } => show_of_id(rt, "step=query", site, id),
-        Step::Send { from, to, id } => show_send(rt, from, to, id),
-        Step::Merge { from, to } => show_between(rt, "step=merge", from, to),
-        Step::Deliver { slot } => number(rt, "step=deliver slot=", slot),
-        Step::Again { slot } => number(rt, "step=again slot=", slot),
-        Step::Lose { slot } => number(rt, "step=lose slot=", slot),
+        Step::Add { site, id } => print!(rt; "step=add node={site} id={id}"),
+        Step::Remove { site, id } => print!(rt; "step=remove node={site} id={id}"),
+        Step::Query { site, id } => print!(rt; "step=query node={site} id={id}"),
+        Step::Send { from, to, id } => print!(rt; "step=send from={from} to={to} id={id}"),
+        Step::Merge { from, to } => print!(rt; "step=merge from={from} to={to}"),
+        Step::Deliver { slot } => print!(rt; "step=deliver slot={slot}"),
+        Step::Again { slot } => print!(rt; "step=again slot={slot}"),
+        Step::Lose { slot } => print!(rt; "step=lose slot={slot}"),
     }
 }
 
@@ -48,15 +28,12 @@ fn show_step(rt: &impl Print, step: Step) -> io::Result<()> {
 fn play(rt: &impl Print, before: Kept, run: Run, step: Step) -> io::Result<Kept> {
     show_step(rt, step)?;
     let moved = kept::step_kept(before, run, step);
-    let answer = moved.answer;
-    say(rt, answer)?;
-    let after = moved.kept;
-    Ok(after)
+    say(rt, moved.answer)?;
+    Ok(moved.kept)
 }
 
 pub(crate) fn add(rt: &impl Print, before: Kept, run: Run, site: u64, id: u64) -> io::Result<Kept> {
-    let step = Step::Add { site, id };
-    play(rt, before, run, step)
+    play(rt, before, run, Step::Add { site: site, id: id })
 }
 
 pub(crate) fn remove(
@@ -66,8 +43,7 @@ pub(crate) fn remove(
     site: u64,
     id: u64,
 ) -> io::Result<Kept> {
-    let step = Step::Remove { site, id };
-    play(rt, before, run, step)
+    play(rt, before, run, Step::Remove { site: site, id: id })
 }
 
 pub(crate) fn query(
@@ -77,8 +53,7 @@ pub(crate) fn query(
     site: u64,
     id: u64,
 ) -> io::Result<Kept> {
-    let step = Step::Query { site, id };
-    play(rt, before, run, step)
+    play(rt, before, run, Step::Query { site: site, id: id })
 }
 
 pub(crate) fn send(
@@ -89,7 +64,11 @@ pub(crate) fn send(
     to: u64,
     id: u64,
 ) -> io::Result<Kept> {
-    let step = Step::Send { from, to, id };
+    let step = Step::Send {
+        from: from,
+        to: to,
+        id: id,
+    };
     play(rt, before, run, step)
 }
 
@@ -100,21 +79,17 @@ pub(crate) fn merge(
     from: u64,
     to: u64,
 ) -> io::Result<Kept> {
-    let step = Step::Merge { from, to };
-    play(rt, before, run, step)
+    play(rt, before, run, Step::Merge { from: from, to: to })
 }
 
 pub(crate) fn deliver(rt: &impl Print, before: Kept, run: Run, slot: u64) -> io::Result<Kept> {
-    let step = Step::Deliver { slot };
-    play(rt, before, run, step)
+    play(rt, before, run, Step::Deliver { slot: slot })
 }
 
 pub(crate) fn again(rt: &impl Print, before: Kept, run: Run, slot: u64) -> io::Result<Kept> {
-    let step = Step::Again { slot };
-    play(rt, before, run, step)
+    play(rt, before, run, Step::Again { slot: slot })
 }
 
 pub(crate) fn lose(rt: &impl Print, before: Kept, run: Run, slot: u64) -> io::Result<Kept> {
-    let step = Step::Lose { slot };
-    play(rt, before, run, step)
+    play(rt, before, run, Step::Lose { slot: slot })
 }

@@ -6,7 +6,6 @@ mod damages;
 mod each_step;
 mod made;
 mod outcomes;
-mod print;
 mod refusals;
 mod sample;
 mod serials;

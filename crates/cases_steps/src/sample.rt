@@ -1,7 +1,6 @@
 // The sample run of the report program, its 17 steps.
 use crate::each_step::{add, again, deliver, lose, merge, query, remove, send};
-use crate::made::three_sites;
-use crate::print::text;
+use crate::made::THREE_SITES;
 use crate::show::show;
 use kept::{Kept, fresh_kept};
 use rules::Run;
@@ -32,8 +31,8 @@ fn sample_rest(rt: &impl Print, before: Kept, run: Run) -> io::Result<Kept> {
 }
 
 pub(crate) fn sample(rt: &impl Print) -> io::Result<()> {
-    text(rt, "the sample run: 3 sites, capacity 8\n")?;
-    let run = three_sites();
+    println!(rt; "the sample run: 3 sites, capacity 8")?;
+    let run = THREE_SITES;
     let s = sample_first(rt, run)?;
     let s = sample_rest(rt, s, run)?;
     show(rt, s, run)

@@ -1,21 +1,19 @@
 // Serials on links: that they wrap, what a delivery hears, what cannot be ordered, and which entries are looked at.
 use crate::each_step::{add, again, deliver, query, remove, send};
 use crate::made::{
-    pair_of, parcel_to, three_sites, twelve_sites, with_entry, with_ledger, with_pair, with_parcel,
+    THREE_SITES, TWELVE_SITES, pair_of, parcel_to, with_entry, with_ledger, with_pair, with_parcel,
 };
-use crate::print::text;
 use crate::show::show;
 use kept::fresh_kept;
 use rules::M;
 use std::io;
 
 fn wrapped(rt: &impl Print) -> io::Result<()> {
-    text(
-        rt,
-        "serials that wrap: the first is 4294967295; the newest arrives first, then its copy, then the older one\n",
+    println!(rt;
+        "serials that wrap: the first is 4294967295; the newest arrives first, then its copy, then the older one"
     )?;
-    let run = three_sites();
-    let s = add(rt, fresh_kept(4294967295), run, 0, 7)?;
+    let run = THREE_SITES;
+    let s = add(rt, fresh_kept(u32::MAX), run, 0, 7)?;
     let s = send(rt, s, run, 0, 1, 7)?;
     let s = remove(rt, s, run, 0, 7)?;
     let s = send(rt, s, run, 0, 1, 7)?;
@@ -29,11 +27,10 @@ fn wrapped(rt: &impl Print) -> io::Result<()> {
 }
 
 fn half_apart(rt: &impl Print) -> io::Result<()> {
-    text(
-        rt,
-        "15 before 8 before 10: a serial half of all away from the newest heard; site 1 full, absorbed at M; 12 sites, capacity 2\n",
+    println!(rt;
+        "15 before 8 before 10: a serial half of all away from the newest heard; site 1 full, absorbed at M; 12 sites, capacity 2"
     )?;
-    let run = twelve_sites();
+    let run = TWELVE_SITES;
     let s = with_entry(fresh_kept(0), 2, 8, 1);
     let s = with_entry(s, 3, 9, 1);
     let s = with_parcel(s, 0, parcel_to(1, 7, 1));
@@ -45,11 +42,10 @@ fn half_apart(rt: &impl Print) -> io::Result<()> {
 }
 
 fn heard(rt: &impl Print) -> io::Result<()> {
-    text(
-        rt,
-        "one less away it is newer, one more away it is older; with nothing heard any serial is taken\n",
+    println!(rt;
+        "one less away it is newer, one more away it is older; with nothing heard any serial is taken"
     )?;
-    let run = three_sites();
+    let run = THREE_SITES;
     let s = with_parcel(fresh_kept(0), 0, parcel_to(1, 7, 1));
     let s = with_ledger(s, 1, 0, 0, 0);
     let older = with_pair(s, 1, pair_of(1, 2147483649, 0, 0));
@@ -60,16 +56,12 @@ fn heard(rt: &impl Print) -> io::Result<()> {
 }
 
 fn damaged_links(rt: &impl Print) -> io::Result<()> {
-    let run = three_sites();
-    text(
-        rt,
-        "damaged: something heard under the mark of nothing heard\n",
-    )?;
+    let run = THREE_SITES;
+    println!(rt; "damaged: something heard under the mark of nothing heard")?;
     let s = with_pair(fresh_kept(0), 33, pair_of(0, 1, 1, 7));
     show(rt, query(rt, s, run, 0, 7)?, run)?;
-    text(
-        rt,
-        "the same where no link of the run is: a site to itself, and a site outside the run\n",
+    println!(rt;
+        "the same where no link of the run is: a site to itself, and a site outside the run"
     )?;
     let s = with_pair(fresh_kept(0), 17, pair_of(0, 1, 1, 7));
     let s = with_pair(s, 3, pair_of(0, 1, 1, 7));

@@ -4,37 +4,25 @@
 use rules::Answer;
 use std::io;
 
-fn text(rt: &impl Print, line: &str) -> io::Result<()> {
-    print!(rt; "{line}")
-}
-
-fn number(rt: &impl Print, key: &str, n: u64) -> io::Result<()> {
-    print!(rt; "{key}{n}")
-}
-
 // The result of a step: `key` with the value where it was accepted, else the refusal.
 fn say(rt: &impl Print, key: &str, answer: Answer) -> io::Result<()> {
-    if answer.refusal == 0 {
-        number(rt, key, answer.value)?;
-    } else {
-        number(rt, " refused=", answer.refusal as u64)?;
+    match answer.refusal {
+        0 => println!(rt; " {key}={}", answer.value),
+        refusal => println!(rt; " refused={refusal}"),
     }
-    text(rt, "\n")
 }
 
 // The layer above a table judges it once, before a step: here, before each of them.
-fn unsound() -> Answer {
-    Answer {
-        refusal: 2,
-        value: 0,
-    }
-}
+const UNSOUND: Answer = Answer {
+    refusal: 2,
+    value: 0,
+};
 
 fn add(words: &mut [u64], id: u64) -> Answer {
     if table::sound(words) {
         table::add(words, id)
     } else {
-        unsound()
+        UNSOUND
     }
 }
 
@@ -42,7 +30,7 @@ fn remove(words: &mut [u64], id: u64) -> Answer {
     if table::sound(words) {
         table::remove(words, id)
     } else {
-        unsound()
+        UNSOUND
     }
 }
 
@@ -50,59 +38,47 @@ fn absorb(words: &mut [u64], id: u64, length: u64) -> Answer {
     if table::sound(words) {
         table::absorb(words, id, length)
     } else {
-        unsound()
+        UNSOUND
     }
 }
 
 fn merge(words: &mut [u64], entries: &[u64]) -> Answer {
-    if table::sound(words) {
-        if table::sound(entries) {
-            return merging::merge(words, entries);
-        }
+    if table::sound(words) && table::sound(entries) {
+        merging::merge(words, entries)
+    } else {
+        UNSOUND
     }
-    unsound()
 }
 
 fn show_add(rt: &impl Print, words: &mut [u64], id: u64) -> io::Result<()> {
-    number(rt, "step=add id=", id)?;
-    say(rt, " length=", add(words, id))
+    print!(rt; "step=add id={id}")?;
+    say(rt, "length", add(words, id))
 }
 
 fn show_remove(rt: &impl Print, words: &mut [u64], id: u64) -> io::Result<()> {
-    number(rt, "step=remove id=", id)?;
-    say(rt, " length=", remove(words, id))
+    print!(rt; "step=remove id={id}")?;
+    say(rt, "length", remove(words, id))
 }
 
 fn show_absorb(rt: &impl Print, words: &mut [u64], id: u64, length: u64) -> io::Result<()> {
-    number(rt, "step=absorb id=", id)?;
-    number(rt, " arrives=", length)?;
-    say(rt, " length=", absorb(words, id, length))
+    print!(rt; "step=absorb id={id} arrives={length}")?;
+    say(rt, "length", absorb(words, id, length))
 }
 
 fn show_merge(rt: &impl Print, words: &mut [u64], entries: &[u64]) -> io::Result<()> {
-    text(rt, "step=merge")?;
-    say(rt, " rose=", merge(words, entries))
-}
-
-fn show_entry(rt: &impl Print, id: u64, length: u64) -> io::Result<()> {
-    number(rt, "  id=", id)?;
-    number(rt, " length=", length)?;
-    number(rt, " present=", length % 2)?;
-    text(rt, "\n")
+    print!(rt; "step=merge")?;
+    say(rt, "rose", merge(words, entries))
 }
 
 // Each entry of the table, and how many there were.
 fn show_entries(rt: &impl Print, words: &[u64]) -> io::Result<u64> {
-    let places = words.len() / 2;
     let mut held: u64 = 0;
-    let mut i = 0;
-    while i < places {
-        let length = words[2 * i + 1];
+    for place in 0..words.len() / 2 {
+        let (id, length) = (words[2 * place], words[2 * place + 1]);
         if length != 0 {
-            show_entry(rt, words[2 * i], length)?;
+            println!(rt; "  id={id} length={length} present={}", length % 2)?;
             held += 1;
         }
-        i += 1;
     }
     Ok(held)
 }
@@ -110,44 +86,41 @@ fn show_entries(rt: &impl Print, words: &[u64]) -> io::Result<u64> {
 // The entries, then how many the table holds and how many of them are listed.
 fn show(rt: &impl Print, words: &[u64]) -> io::Result<()> {
     let held = show_entries(rt, words)?;
-    number(rt, "  held=", held)?;
-    number(rt, " shown=", table::shown(words) as u64)?;
-    text(rt, "\n")
+    println!(rt; "  held={held} shown={}", table::shown(words))
 }
 
 fn main(rt: HostRuntime) -> io::Result<()> {
     let mut site = [0u64; 6];
-    text(&rt, "a site with room for 3 ids\n")?;
+    println!(rt; "a site with room for 3 ids")?;
     show_add(&rt, &mut site, 7)?;
     show_add(&rt, &mut site, 7)?;
     show_remove(&rt, &mut site, 7)?;
     show_remove(&rt, &mut site, 8)?;
     show_add(&rt, &mut site, 9)?;
     show(&rt, &site)?;
-    text(&rt, "another site's table, {7: 1, 8: 3}, is merged in\n")?;
+    println!(rt; "another site's table, {{7: 1, 8: 3}}, is merged in")?;
     let other = [7u64, 1, 8, 3];
     show_merge(&rt, &mut site, &other)?;
     show_merge(&rt, &mut site, &other)?;
     show(&rt, &site)?;
-    text(&rt, "the table is full\n")?;
+    println!(rt; "the table is full")?;
     show_add(&rt, &mut site, 5)?;
     show_absorb(&rt, &mut site, 5, 1)?;
     let more = [5u64, 1, 7, 9];
     show_merge(&rt, &mut site, &more)?;
     show(&rt, &site)?;
-    text(&rt, "a late update, and a newer one\n")?;
+    println!(rt; "a late update, and a newer one")?;
     show_absorb(&rt, &mut site, 8, 2)?;
     show_absorb(&rt, &mut site, 8, 4)?;
     show(&rt, &site)?;
-    text(&rt, "the lengths run out\n")?;
+    println!(rt; "the lengths run out")?;
     let mut worn = [7u64, 4294967294];
     show_add(&rt, &mut worn, 7)?;
     show_remove(&rt, &mut worn, 7)?;
     show_add(&rt, &mut worn, 7)?;
     show(&rt, &worn)?;
-    text(
-        &rt,
-        "words that are no table: equal ids, a length above the largest, a word too many\n",
+    println!(rt;
+        "words that are no table: equal ids, a length above the largest, a word too many"
     )?;
     let mut twice = [7u64, 1, 7, 2];
     show_add(&rt, &mut twice, 7)?;

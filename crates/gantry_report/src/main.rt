@@ -1,22 +1,16 @@
 // The report program: standard input to its end, or to one byte past the limit, and what is printed of it to standard output.
 #![tactic(auto)]
 
-ghost use Rattle.std.specs.Prelude.{◌≡◌, ◌≤◌, ◌<◌, replicate, length, take, IfOk};
+ghost use Rattle.std.specs.Prelude.{◌≤◌, ◌<◌, length, take, IfOk};
 ghost use Rattle.std.specs.Io.KnownBytes.{Consumes, IsAtEnd};
 
 use rules::INPUT_MAX;
 use std::io;
 use std::io::{Read, Write};
 
-// One byte more than is run.
-fn input_buffer() -> [u8; INPUT_MAX + 1]
-    ensures { result ≡ replicate 32769 0 }
-{
-    [0; INPUT_MAX + 1]
-}
-
 // Reads until the buffer is full or the input ends, and answers how many bytes that is: where the reader's bytes are known, it took these from them, and where
-// the buffer is not full, none is left.
+// the buffer is not full, none is left. It stands in `cases_lines` too: `tools/check-contracts` holds every public function of a library
+// to one outcome, and what a reader gives has many.
 fn read_full<R: Read>(input: &mut R, buffer: &mut [u8]) -> io::Result<usize>
     ensures bound { IfOk result (λ n. n ≤ length buffer.new) }
     ensures bytes { IfOk result (λ n. Consumes (R.remaining input.old) (R.remaining input.new) (take n buffer.new)) }
@@ -34,7 +28,8 @@ fn read_full<R: Read>(input: &mut R, buffer: &mut [u8]) -> io::Result<usize>
 }
 
 fn main(rt: HostRuntime) -> io::Result<()> {
-    let mut input = input_buffer();
+    // One byte more than is run.
+    let mut input = [0; INPUT_MAX + 1];
     let n = read_full(&mut rt.stdin(), &mut input)?;
     let mut out = report::largest_room();
     let written = report::printed(&input[..n], &mut out);

@@ -17,7 +17,7 @@ pub struct Kept {
     pub ledger: Ledger,
 }
 
-// What a step makes of a kept run: the run after it, and the answer.
+// The run after a step, and what the step answered.
 #[derive(Clone, Copy)]
 pub struct Moved {
     pub kept: Kept,
@@ -28,53 +28,32 @@ pub struct Moved {
 pub fn fresh_kept(first: u32) -> Kept
     ensures { kept_state result ≡ lent (replicate 48 0) (replicate 8 no_parcel) (begun_ledger first) }
 {
-    let words = [0u64; 48];
-    let none = Parcel {
-        site: 0,
-        id: 0,
-        length: 0,
-        sender: 0,
-        serial: 0,
-    };
-    let slots = [none; 8];
-    let counts = Counts {
-        sent: 0,
-        copied: 0,
-        absorbed: 0,
-        lost: 0,
-    };
     let begun = Pair {
         next: first,
-        heard: 0,
         unsent: 1,
         unheard: 1,
-    };
-    let ledger = Ledger {
-        counts,
-        pairs: [begun; ENTRIES],
+        ..Pair::default()
     };
     Kept {
-        words,
-        slots,
-        ledger,
+        words: [0; 48],
+        slots: [Parcel::default(); 8],
+        ledger: Ledger {
+            counts: Counts::default(),
+            pairs: [begun; ENTRIES],
+        },
     }
 }
 
-// The state is laid out in locals and lent to the step, and taken up again.
-pub fn step_kept(kept: Kept, run: Run, step: Step) -> Moved
+// What a step makes of a kept run, which is lent to it: the run after it, and the answer.
+pub fn step_kept(mut kept: Kept, run: Run, step: Step) -> Moved
     ensures { Stepped run (kept_state kept) step result.answer (kept_state result.kept) }
 {
-    let mut words = kept.words;
-    let mut slots = kept.slots;
-    let mut ledger = kept.ledger;
-    let answer = sites::step(&mut words, &mut slots, &mut ledger, run, step);
-    let after = Kept {
-        words,
-        slots,
-        ledger,
-    };
-    Moved {
-        kept: after,
-        answer,
-    }
+    let answer = sites::step(
+        &mut kept.words,
+        &mut kept.slots,
+        &mut kept.ledger,
+        run,
+        step,
+    );
+    Moved { kept, answer }
 }

@@ -5,10 +5,12 @@ use mathlib.Core.Path.{◌≡◌, sym, ap, ◌∙◌}
 use mathlib.Core.List.{List, [], ◌∷◌, ◌++◌}
 use lib.ListN.{length}
 use borrow.Author.Tests.{lt-ltb, le-ltb}
+use Rattle.std.specs.Prelude.{Ok, Err}
+use Rattle.rules.specs.declared.Refusal.TheVariants.{InputLong, ShortBuffer}
 use Rattle.rules.specs.meaning.Text.{ascii}
 use Rattle.rules.specs.meaning.Put.{put}
 use Rattle.rules.proofs.laws.Put.{put_nil}
-use Rattle.rules.specs.meaning.Reports.{line_end, input_limit, report_room, report_of, Told, printed_of, printed_for, Printed}
+use Rattle.rules.specs.meaning.Reports.{line_end, input_limit, report_room, report_of, as_reported, Told, printed_of, printed_for, Printed}
 use Rattle.rules.proofs.laws.report.Fits.{report_over, report_short, report_taken, told_refused, told_taken}
 use Rattle.report.specs.Laid.{Laid}
 
@@ -17,19 +19,19 @@ module _ (input before : List ℕ) where
   none_told : (n : ℕ) (text : List ℕ) → text ≡ [] → (0 ≡ length text) × (before ≡ put before 0 text)
   none_told n text e = (sym (ap length e), sym (put_nil before 0) ∙ ap (put before 0) (sym e))
 
-  pub told_over : input_limit < length input → Told input before (record { refusal = 12; written = 0 }) before
+  pub told_over : input_limit < length input → Told input before (as_reported (Err InputLong)) before
   told_over h =
       let r = report_over input (length before) h in
       let none = none_told 0 _ (told_refused input (length before) 11 r) in
       record { refusal = sym r; written = none.0; bytes = none.1 }
 
-  pub told_short : length input ≤ input_limit → length before < length (report_of input) → Told input before (record { refusal = 13; written = 0 }) before
+  pub told_short : length input ≤ input_limit → length before < length (report_of input) → Told input before (as_reported (Err ShortBuffer)) before
   told_short h k =
       let r = report_short input (length before) h k in
       let none = none_told 0 _ (told_refused input (length before) 12 r) in
       record { refusal = sym r; written = none.0; bytes = none.1 }
 
-  pub told_done : (n : ℕ) (after : List ℕ) → length input ≤ input_limit → length (report_of input) ≤ length before → Laid before 0 (report_of input) n after → Told input before (record { refusal = 0; written = n }) after
+  pub told_done : (n : ℕ) (after : List ℕ) → length input ≤ input_limit → length (report_of input) ≤ length before → Laid before 0 (report_of input) n after → Told input before (as_reported (Ok n)) after
   told_done n after h k w =
       let r = report_taken input (length before) h k in
       let t = told_taken input (length before) r in

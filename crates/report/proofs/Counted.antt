@@ -4,14 +4,16 @@ use Prim.Native.Nat.{ℕ, suc, ◌+◌, ◌*◌, ◌-◌, ◌≤◌, ◌<◌}
 use native.Mathlib.Omega.{arith}
 use native.Mathlib.Numerals.{add-one}
 use mathlib.Core.Path.{◌≡◌, refl, ap, ◌∙◌}
-use mathlib.Core.Bool.{Bool, cond}
-use mathlib.Core.List.{List, [], ◌∷◌, ◌++◌}
-use lib.ListN.{length, take, drop, get_or}
-use lib.Seq.{drop-cons, drop-length}
+use mathlib.Core.Bool.{Bool, true, false, cond}
+use Rattle.std.proofs.Common.{not}
+use Rattle.std.specs.List.{count_by}
+use Rattle.std.proofs.lemmas.List.Recursion.{is_count_by}
+use mathlib.Core.List.{List, [], ◌∷◌, ◌++◌, append_assoc}
+use lib.ListN.{length, length-append, take, drop}
 use Rattle.rules.specs.declared.Parcel.{Parcel}
 use Rattle.rules.specs.declared.Counts.{Counts}
 use Rattle.rules.specs.meaning.Lengths.{M}
-use Rattle.rules.specs.meaning.Parcels.{is_free, no_parcel, waiting}
+use Rattle.rules.specs.meaning.Parcels.{is_free, waiting}
 use Rattle.rules.specs.meaning.Table.{held, shown}
 use Rattle.rules.specs.meaning.States.{State, table_at, StateSound}
 use Rattle.rules.proofs.laws.run.Tables.{words_long}
@@ -21,17 +23,21 @@ use Rattle.rules.specs.meaning.Reports.{report_run, count_line, ledger_lines, si
 use Rattle.report.specs.Tables.{ThreeTables}
 use Rattle.report.proofs.Words.{pair}
 
--- ---- waiting: the slots that are left to be looked at
-waiting_by : (p : Parcel) (ps : List Parcel) (b : Bool) → is_free p ≡ b → waiting (p ∷ ps) ≡ cond b (waiting ps) (suc (waiting ps))
+-- ---- waiting: the slots that are not free
+waiting_more : (p : Parcel) (ps : List Parcel) → waiting (p ∷ ps) ≡ cond (not (is_free p)) (1 + waiting ps) (waiting ps)
 unfolding waiting
-waiting_by p ps b e = rw e
+waiting_more p ps = by_test (is_free p)
+  where
+    by_test : (b : Bool) → cond b (waiting ps) (suc (waiting ps)) ≡ cond (not b) (1 + waiting ps) (waiting ps)
+    by_test true = refl
+    by_test false = omega arith
 
-pub waiting_from : (slots : List Parcel) (i : ℕ) (b : Bool) → i < length slots → is_free (get_or slots i no_parcel) ≡ b → waiting (drop i slots) ≡ cond b (waiting (drop (i + 1) slots)) (suc (waiting (drop (i + 1) slots)))
-waiting_from slots i b h e = rw (drop-cons slots i no_parcel h, add-one i) (waiting_by (get_or slots i no_parcel) (drop (suc i) slots) b e)
-
-pub waiting_end : (slots : List Parcel) (i : ℕ) → i ≡ length slots → waiting (drop i slots) ≡ 0
+waiting_none : waiting [] ≡ 0
 unfolding waiting
-waiting_end slots i e = rw (e, drop-length slots)
+waiting_none = refl
+
+pub waiting_counts : (ps : List Parcel) → waiting ps ≡ count_by (λ p. not (is_free p)) ps
+waiting_counts ps = is_count_by waiting (λ p. not (is_free p)) waiting_none waiting_more ps
 
 -- ---- the lines of the sites that are left
 sites_suc : (n k : ℕ) (ws : List ℕ) → site_lines (suc n) k ws ≡ site_line k (table_at report_run ws k) ++ site_lines n (suc k) ws
@@ -57,9 +63,12 @@ unfolding site_lines
 sites_end k ws l = let n : 3 - k ≡ 0 = omega arith in rw n
 
 -- ---- the line of a site by its three pieces
-pub site_pieces : (k h n : ℕ) (t : List ℕ) → h ≡ held t → n ≡ shown t → site_line k t ≡ pair (ascii "node=") k ++ (pair (ascii " held=") h ++ count_line (ascii " shown=") n)
+pub site_pieces : (k : ℕ) (t : List ℕ) → site_line k t ≡ pair (ascii "node=") k ++ (pair (ascii " held=") (held t) ++ count_line (ascii " shown=") (shown t))
 unfolding site_line
-site_pieces k h n t e f = rw (e, f)
+site_pieces k t = simp append_assoc
+
+pub site_long : (k : ℕ) (t : List ℕ) → length (site_line k t) ≡ length (pair (ascii "node=") k) + (length (pair (ascii " held=") (held t)) + length (count_line (ascii " shown=") (shown t)))
+site_long k t = ap length (site_pieces k t) ∙ simp (length-append {A = ℕ})
 
 -- ---- a sound run has three sound tables
 pub three_tables : (s : State) → StateSound report_run s → ThreeTables s.words
@@ -69,6 +78,9 @@ three_tables s h = record {
   sound = λ k l. tables_at M 16 3 s.words h.1 k l;
 }
 
-pub end_pieces : (ws : List ℕ) (ss : List Parcel) (c : Counts) (w : ℕ) → w ≡ waiting ss → ending ws ss c ≡ ledger_lines c w ++ site_lines 3 0 ws
+pub end_pieces : (ws : List ℕ) (ss : List Parcel) (c : Counts) → ending ws ss c ≡ ledger_lines c (waiting ss) ++ site_lines 3 0 ws
 unfolding ending
-end_pieces ws ss c w e = rw e
+end_pieces ws ss c = refl
+
+pub end_long : (ws : List ℕ) (ss : List Parcel) (c : Counts) → length (ending ws ss c) ≡ length (ledger_lines c (waiting ss)) + length (site_lines 3 0 ws)
+end_long ws ss c = ap length (end_pieces ws ss c) ∙ length-append (ledger_lines c (waiting ss)) _

@@ -33,21 +33,20 @@ left_next {out} {place} {end} {wanted} {next} {after} a b l w =
       room = rw (w.bytes, put_length out place a h) l.room;
     }
 
--- there is room for all of it
-pub left_fits : {out : List ℕ} {place : ℕ} {text : List ℕ} {end : ℕ} {wanted : List ℕ} → Left out place text end wanted → place + length text ≤ length out
-left_fits l = omega (arith, l.behind, l.room)
-
 -- the same text in other words
 pub left_as : {out : List ℕ} {place : ℕ} {a b : List ℕ} {end : ℕ} {wanted : List ℕ} → a ≡ b → Left out place a end wanted → Left out place b end wanted
 left_as e l = rw (← e) l
 
--- ---- what a writer owes, once the last piece is laid
-pub laid_last : {out before : List ℕ} {place start next : ℕ} {text after a : List ℕ} → Left out place a (start + length text) (put before start text) → Laid out place a next after → Laid before start text next after
-laid_last l w = record { behind = w.behind ∙ l.behind; bytes = w.bytes ∙ l.bytes }
-
--- or where nothing is left
+-- ---- what a writer owes, where nothing is left
 pub laid_none : {out before : List ℕ} {place start : ℕ} {text : List ℕ} → Left out place [] (start + length text) (put before start text) → Laid before start text place out
 laid_none {out} {before} {place} {start} {text} l = record { behind = omega (arith, l.behind); bytes = sym (put_nil out place) ∙ l.bytes }
+
+-- one text laid behind another is both of them laid
+pub laid_then : {out mid after : List ℕ} {place next end : ℕ} {a b : List ℕ} → Laid out place a next mid → Laid mid next b end after → place + length a ≤ length out → Laid out place (a ++ b) end after
+laid_then {out} {mid} {after} {place} {next} {end} {a} {b} f g room = record {
+  behind = omega (arith, f.behind, g.behind, length-append a b);
+  bytes = g.bytes ∙ rw (f.behind, f.bytes) (put_put out place a b room);
+}
 
 -- ---- what is laid and what there is room for, in other words
 pub laid_as : {out : List ℕ} {place next : ℕ} {a b after : List ℕ} → a ≡ b → Laid out place a next after → Laid out place b next after

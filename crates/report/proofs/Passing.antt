@@ -5,12 +5,19 @@ use native.Mathlib.Omega.{arith}
 use native.Mathlib.Numerals.{add-one}
 use mathlib.Core.Path.{◌≡◌, refl, sym, ap, subst, ◌∙◌}
 use mathlib.Core.List.{List, [], ◌∷◌, ◌++◌, append-nil}
-use lib.ListN.{length, take, drop, get_or}
+use lib.ListN.{length, take, drop, get_or, length-drop, replicate}
+use Rattle.std.proofs.lemmas.List.{get_or-drop}
+use Rattle.std.proofs.lemmas.List.{take_rest}
 use lib.Seq.{slice, slice_empty, drop-length}
 use Rattle.std.specs.Prelude.{Option, Some, None}
 use Rattle.rules.specs.declared.Step.{Step}
 use Rattle.rules.specs.meaning.Operations.{Answer}
-use Rattle.rules.specs.meaning.States.{State, StateSound}
+use Rattle.rules.specs.declared.Parcel.{Parcel}
+use Rattle.rules.specs.declared.Counts.{Counts}
+use Rattle.rules.specs.meaning.Parcels.{no_parcel}
+use Rattle.rules.specs.meaning.Ledgers.{no_counts}
+use Rattle.rules.specs.meaning.Links.{start_pair}
+use Rattle.rules.specs.meaning.States.{State, lent, StateSound}
 use Rattle.rules.specs.meaning.Acts.{Acted, answer_under, after_under}
 use Rattle.rules.specs.meaning.Runs.{after}
 use Rattle.rules.specs.meaning.Put.{put}
@@ -21,25 +28,39 @@ use Rattle.rules.proofs.laws.report.Fits.{report_done, report_starts, report_fit
 use Rattle.rules.proofs.laws.report.Parts.{end_within}
 use Rattle.rules.proofs.laws.report.Places.{report_line_at, report_byte_at, report_unended_at, start_sound, state_sound}
 use Rattle.report.specs.Said.{Sayable, Said}
-use Rattle.report.specs.declared.ahead.Ahead.{Ahead}
-use Rattle.report.specs.Ahead.{Within, Ends, refused_as, asked_step, ahead, Next}
+use Rattle.report.specs.Ahead.{Ends, refused_as, asked_step, Next}
 use Rattle.report.proofs.Saying.{Still, still_all, still_as, still_next, still_sayable}
 use Rattle.report.proofs.Words.{said_none, said_step, said_short}
 
 -- ---- where a line ends
-module _ (input : List ℕ) (start : ℕ) where
-  pub within_start : start ≤ length input → Within input start start
-  within_start h = record { begun = omega arith; inside = h; unended = λ i a b. absurd (omega arith) }
+-- the bytes from a place on, as the code takes them
+abbrev pub rest_of : List ℕ → ℕ → List ℕ
+rest_of input start = take (length input - start) (drop start input)
 
-  pub within_more : (i : ℕ) → Within input start i → i < length input → (get_or input i 0 ≡ line_end → ⊥) → Within input start (i + 1)
-  within_more i w h other = record {
-    begun = omega (arith, w.begun);
-    inside = omega arith;
-    unended = λ j a b e. below_or j b (λ l. w.unended j a l e) (λ same. other (ap (λ (k : ℕ). get_or input k 0) (sym same) ∙ e));
-  }
-    where
-      below_or : (j : ℕ) → j < i + 1 → (j < i → ⊥) → (j ≡ i → ⊥) → ⊥
-      below_or j b f g = g (omega (arith, f))
+rest_at : (input : List ℕ) (start k : ℕ) → get_or (rest_of input start) k 0 ≡ get_or input (start + k) 0
+rest_at input start k = ap (λ (l : List ℕ). get_or l k 0) (take_rest input start) ∙ get_or-drop start input k 0
+
+rest_long : (input : List ℕ) (start : ℕ) → length (rest_of input start) ≡ length input - start
+rest_long input start = ap length (take_rest input start) ∙ length-drop start input
+
+unended_to : (input : List ℕ) (start n : ℕ) → ((k : ℕ) → k < n → get_or (rest_of input start) k 0 ≡ line_end → ⊥) → (i : ℕ) → start ≤ i → i < start + n → get_or input i 0 ≡ line_end → ⊥
+unended_to input start n before i from to e =
+    let there : start + (i - start) ≡ i = omega arith in
+    before (i - start) (omega arith) (rest_at input start (i - start) ∙ ap (λ (k : ℕ). get_or input k 0) there ∙ e)
+
+ends_at : (input : List ℕ) (start n : ℕ) → n < length (rest_of input start) → get_or (rest_of input start) n 0 ≡ line_end → ((k : ℕ) → k < n → get_or (rest_of input start) k 0 ≡ line_end → ⊥) → Ends input start (start + n)
+ends_at input start n inside at before = record {
+  within = record { begun = omega arith; inside = omega (arith, rest_long input start); unended = unended_to input start n before };
+  ends = λ h. sym (rest_at input start n) ∙ at;
+}
+
+ends_never : (input : List ℕ) (start : ℕ) → start ≤ length input → ((k : ℕ) → k < length (rest_of input start) → get_or (rest_of input start) k 0 ≡ line_end → ⊥) → Ends input start (length input)
+ends_never input start begun none =
+    let whole : start + length (rest_of input start) ≡ length input = omega (arith, rest_long input start) in
+    record {
+      within = record { begun = begun; inside = omega arith; unended = λ i from to e. unended_to input start (length (rest_of input start)) none i from (omega arith) e };
+      ends = λ h. absurd (omega arith);
+    }
 
 -- ---- what it asks for
 -- the bytes from one place up to another, as the code takes them and as the laws of `ReportPlaces` say them
@@ -74,14 +95,12 @@ module _ (input : List ℕ) (start : ℕ) where
         ∙ ap (λ (i : ℕ). report_from n s (slice start i input) (drop i input)) z
 
     -- the line is ended
-    pub next_line : (named : Option Step) (r : Ahead) → end < length input → named ≡ step_of (take (end - start) (drop start input)) → r ≡ ahead named (end + 1) → Next input start r
-    next_line named r h read is = subst (Next input start) (sym is) (record {
-      names = named;
-      is = refl;
+    next_line : (named : Option Step) → end < length input → named ≡ step_of (take (end - start) (drop start input)) → Next input start named (end + 1)
+    next_line named h read = record {
       behind = omega (arith, e.within.begun);
       inside = omega arith;
       report = λ n s. up_to n s ∙ report_line_at n s input start end h (e.ends h) ∙ goes_on n s;
-    })
+    }
       where
         same : step_of (slice start end input) ≡ named
         same = ap step_of (sym (part_is input start end e.within.begun)) ∙ sym read
@@ -92,18 +111,27 @@ module _ (input : List ℕ) (start : ℕ) where
         goes_on n s = rw (same, slice_empty (suc end) input, add-one end)
 
     -- or the input ends before it
-    pub next_unended : (r : Ahead) → start < length input → end ≡ length input → r ≡ ahead None end → Next input start r
+    next_unended : start < length input → end ≡ length input → Next input start None end
     unfolding named_after
-    next_unended r h at is = subst (Next input start) (sym is) (record {
-      names = None;
-      is = refl;
+    next_unended h at = record {
       behind = omega arith;
       inside = omega arith;
       report = λ n s. up_to n s ∙ ap (λ (i : ℕ). report_from n s (slice start i input) (drop i input)) at ∙ report_unended_at n s input start h ∙ goes_on n s;
-    })
+    }
       where
         goes_on : (n : ℕ) (s : State) → refused_line n 11 ++ end_lines s ≡ said_of n s None ++ report_from (suc n) s [] (drop end input)
         goes_on n s = rw (said_none n s None refl, at, drop-length input, report_done (suc n) s)
+
+-- ---- by the length of the line at the front
+pub next_ended : (input : List ℕ) (start n : ℕ) (named : Option Step) → n < length (rest_of input start) → get_or (rest_of input start) n 0 ≡ line_end → ((k : ℕ) → k < n → get_or (rest_of input start) k 0 ≡ line_end → ⊥)
+    → named ≡ step_of (take n (rest_of input start)) → Next input start named (start + n + 1)
+next_ended input start n named inside at before read =
+    let long : (start + n) - start ≡ n = omega arith in
+    let same : take n (rest_of input start) ≡ take ((start + n) - start) (drop start input) = rw (take_rest input start, long) in
+    next_line input start (start + n) (ends_at input start n inside at before) named (omega (arith, rest_long input start)) (read ∙ ap step_of same)
+
+pub next_last : (input : List ℕ) (start : ℕ) → start < length input → ((k : ℕ) → k < length (rest_of input start) → get_or (rest_of input start) k 0 ≡ line_end → ⊥) → Next input start None (length input)
+next_last input start h none = next_unended input start (length input) (ends_never input start (omega arith) none) h refl
 
 -- ---- the pass
 -- line n begins at `start`, the state is s, and what is left of the report goes to `place`; `first` is the buffer as it was lent
@@ -113,13 +141,18 @@ pub record Passed (input first out : List ℕ) (s : State) (n start place : ℕ)
   pub sound : StateSound report_run s
   pub left : Still out place (report_from n s [] (drop start input)) (0 + length (report_of input)) (put first 0 (report_of input))
 
-pub passed_start : (input first : List ℕ) → (0 < length first → length (report_of input) ≤ length first) → Passed input first first report_start 1 0 0
+passed_start : (input first : List ℕ) → (0 < length first → length (report_of input) ≤ length first) → Passed input first first report_start 1 0 0
 passed_start input first r = record {
   inside = omega arith;
   count = omega arith;
   sound = start_sound;
   left = still_as (report_starts input) (still_all first 0 (report_of input) (λ some. omega (arith, r some)));
 }
+
+-- what the code begins with, by the values that it takes for what is free and for no count
+pub passed_begun : (input first : List ℕ) → (0 < length first → length (report_of input) ≤ length first) → (none : Parcel) (counts : Counts) → none ≡ no_parcel → counts ≡ no_counts
+    → Passed input first first (lent (replicate 48 0) (replicate 8 none) (record { counts = counts; pairs = replicate 256 (start_pair 0) })) 1 0 0
+passed_begun input first r none counts e f = rw (e, f) (passed_start input first r)
 
 -- what the inner step answers and leaves is what the line says and leaves
 acted_says : (n : ℕ) (s : State) (names : Option Step) (a : Answer) (left : State) → Acted (refused_as names) report_run s (asked_step names) a left
@@ -129,28 +162,26 @@ acted_says n s (Some step) a left did = (said_step n s (Some step) step a refl d
 acted_says n s None a left did = (said_none n s None refl ∙ rw did.answer, did.state)
 
 -- a line, where the inner step was asked for what the line asks for
-module _ (input first out : List ℕ) (s : State) (n start place : ℕ) (p : Passed input first out s n start place) (l : Ahead) (next : Next input start l)
-    (a : Answer) (left : State) (did : Acted l.refusal report_run s l.step a left) where
-  says : (said_of n s next.names ≡ line_by a.refusal n l.step a.value) × (left ≡ named_after report_run s next.names)
-  says =
-      let t = acted_says n s next.names a left (subst (λ (m : Ahead). Acted m.refusal report_run s m.step a left) next.is did) in
-      (t.0 ∙ ap (λ (m : Ahead). line_by a.refusal n m.step a.value) (sym next.is), t.1)
+module _ (input first out : List ℕ) (s : State) (n start place : ℕ) (p : Passed input first out s n start place) (names : Option Step) (next : ℕ) (ahead : Next input start names next)
+    (step : Step) (asks : step ≡ asked_step names) (refused : ℕ) (refuses : refused ≡ refused_as names) (a : Answer) (left : State) (did : Acted refused report_run s step a left) where
+  says : (said_of n s names ≡ line_by a.refusal n step a.value) × (left ≡ named_after report_run s names)
+  says = rw asks (acted_says n s names a left (rw (← refuses, ← asks) did))
 
-  line_left : Still out place (line_by a.refusal n l.step a.value ++ report_from (n + 1) left [] (drop l.next input)) (0 + length (report_of input)) (put first 0 (report_of input))
-  line_left = still_as (next.report n s ∙ rw (says.0, says.1, add-one n)) p.left
+  line_left : Still out place (line_by a.refusal n step a.value ++ report_from (n + 1) left [] (drop next input)) (0 + length (report_of input)) (put first 0 (report_of input))
+  line_left = still_as (ahead.report n s ∙ rw (says.0, says.1, add-one n)) p.left
 
-  pub line_sayable : length input ≤ input_limit → Sayable 99 out place (line_by a.refusal n l.step a.value)
+  pub line_sayable : length input ≤ input_limit → Sayable 99 out place (line_by a.refusal n step a.value)
   line_sayable small =
-      still_sayable 99 (line_by a.refusal n l.step a.value) _ line_left
-      (subst (λ (t : List ℕ). length t ≤ 99) says.0 (said_short n s next.names (omega (arith, p.count, p.inside))))
+      still_sayable 99 (line_by a.refusal n step a.value) _ line_left
+      (subst (λ (t : List ℕ). length t ≤ 99) says.0 (said_short n s names (omega (arith, p.count, p.inside))))
       (omega (arith, report_fits input small))
 
-  pub passed_line : (place' : ℕ) (after : List ℕ) → Said out place (line_by a.refusal n l.step a.value) place' after → length after ≡ length out → Passed input first after left (n + 1) l.next place'
+  pub passed_line : (place' : ℕ) (after : List ℕ) → Said out place (line_by a.refusal n step a.value) place' after → length after ≡ length out → Passed input first after left (n + 1) next place'
   passed_line place' after w long = record {
-    inside = next.inside;
-    count = omega (arith, p.count, next.behind);
-    sound = rw says.1 (state_sound s next.names p.sound);
-    left = still_next (line_by a.refusal n l.step a.value) _ line_left w long;
+    inside = ahead.inside;
+    count = omega (arith, p.count, ahead.behind);
+    sound = rw says.1 (state_sound s names p.sound);
+    left = still_next (line_by a.refusal n step a.value) _ line_left w long;
   }
 
 -- ---- the end of the input: only the end of the report is left

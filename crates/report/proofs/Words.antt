@@ -1,11 +1,11 @@
 -- The lines of a report by the pieces in which they are written.
 -- Assumes nothing.
-use Prim.Native.Nat.{ℕ, zero, suc, ◌≤◌, ◌<◌}
+use Prim.Native.Nat.{ℕ, zero, suc, ◌+◌, ◌≤◌, ◌<◌}
 use native.Mathlib.Omega.{arith}
 use mathlib.Core.Path.{◌≡◌, refl, sym, ap, ◌∙◌}
 use mathlib.Core.Bool.{Bool, true, false, cond}
 use mathlib.Core.List.{List, [], ◌∷◌, ◌++◌, append_assoc}
-use lib.ListN.{length}
+use lib.ListN.{length, length-append}
 use Rattle.std.specs.Prelude.{Option, Some, None}
 use Rattle.rules.specs.declared.Counts.{Counts}
 use Rattle.rules.specs.meaning.Operations.{Answer}
@@ -29,23 +29,33 @@ pair name n = name ++ digits n
 pub count_pieces : (name : List ℕ) (n : ℕ) → count_line name n ≡ pair name n ++ (line_end ∷ [])
 count_pieces name n = sym (append_assoc name (digits n) (line_end ∷ []))
 
+pub count_long : (name : List ℕ) (n : ℕ) → length (count_line name n) ≡ length (pair name n) + 1
+count_long name n = ap length (count_pieces name n) ∙ length-append (pair name n) (line_end ∷ [])
+
 pub refused_pieces : (n r : ℕ) → refused_line n r ≡ pair (ascii "line=") n ++ count_line (ascii " refused=") r
 unfolding refused_line
 refused_pieces n r = sym (append_assoc (ascii "line=") (digits n) _)
 
--- 1 where the length is listed, else 0
-pub present_is : (n : ℕ) (b : Bool) {r : Bool} → r ≡ listed n → r ≡ b → ◌≡◌ {A = ℕ} (cond b 1 0) (cond (listed n) 1 0)
-present_is n b e t = rw (sym e ∙ t)
+pub refused_long : (n r : ℕ) → length (refused_line n r) ≡ length (pair (ascii "line=") n) + length (count_line (ascii " refused=") r)
+refused_long n r = ap length (refused_pieces n r) ∙ length-append (pair (ascii "line=") n) _
 
-pub query_pieces : (n k e m p : ℕ) → p ≡ cond (listed m) 1 0 → query_line n k e m
-    ≡ pair (ascii "line=") n ++ (pair (ascii " node=") k ++ (pair (ascii " id=") e ++ (pair (ascii " length=") m ++ count_line (ascii " present=") p)))
+pub query_pieces : (n k e m : ℕ) → query_line n k e m
+    ≡ pair (ascii "line=") n ++ (pair (ascii " node=") k ++ (pair (ascii " id=") e ++ (pair (ascii " length=") m ++ count_line (ascii " present=") (cond (listed m) 1 0))))
 unfolding query_line
-query_pieces n k e m p h = rw (← h) (simp append_assoc)
+query_pieces n k e m = simp append_assoc
+
+pub query_long : (n k e m : ℕ) → length (query_line n k e m)
+    ≡ length (pair (ascii "line=") n) + (length (pair (ascii " node=") k) + (length (pair (ascii " id=") e) + (length (pair (ascii " length=") m) + length (count_line (ascii " present=") (cond (listed m) 1 0)))))
+query_long n k e m = ap length (query_pieces n k e m) ∙ simp (length-append {A = ℕ})
 
 pub ledger_pieces : (l : Counts) (w : ℕ) → ledger_lines l w
     ≡ count_line (ascii "sent=") l.sent ++ (count_line (ascii "copied=") l.copied ++ (count_line (ascii "absorbed=") l.absorbed ++ (count_line (ascii "lost=") l.lost ++ count_line (ascii "waiting=") w)))
 unfolding ledger_lines
 ledger_pieces l w = refl
+
+pub ledger_long : (l : Counts) (w : ℕ) → length (ledger_lines l w)
+    ≡ length (count_line (ascii "sent=") l.sent) + (length (count_line (ascii "copied=") l.copied) + (length (count_line (ascii "absorbed=") l.absorbed) + (length (count_line (ascii "lost=") l.lost) + length (count_line (ascii "waiting=") w))))
+ledger_long l w = ap length (ledger_pieces l w) ∙ simp (length-append {A = ℕ})
 
 -- ---- what a line says, by the answer of its step
 pub refused_by : (r n : ℕ) (step : Step) (m : ℕ) → (r ≡ 0 → ⊥) → line_by r n step m ≡ refused_line n r

@@ -1,12 +1,11 @@
 -- The next line of the input, which begins at a place: where it ends, what it asks for, and how the report goes on behind it.
 -- Assumes nothing.
-use Rattle.std.specs.Prelude.{ℕ, suc, ◌≤◌, ◌<◌, ◌≡◌, List, [], ◌++◌, length, drop, get_or, Option, Some, None}
+use Rattle.std.specs.Prelude.{ℕ, suc, ◌≤◌, ◌<◌, ◌≡◌, List, [], ◌++◌, length, drop, get_or, ◌≢◌, Option, Some, None, MatchOption, EachIndex, slice_index}
 use Rattle.rules.specs.declared.Step.{Step}
 use Rattle.rules.specs.declared.Step.TheVariants.{Query}
 use Rattle.rules.specs.meaning.States.{State}
 use Rattle.rules.specs.meaning.Calls.{named_after}
 use Rattle.rules.specs.meaning.Reports.{report_run, line_end, said_of, report_from}
-use Rattle.report.specs.declared.ahead.Ahead.{Ahead}
 
 -- the line that begins at `start` is not ended before `end`
 pub record Within (input : List ℕ) (start end : ℕ) : Type 0 where
@@ -19,6 +18,11 @@ pub record Ends (input : List ℕ) (start end : ℕ) : Type 0 where
   pub within : Within input start end
   pub ends : end < length input → get_or input end 0 ≡ line_end
 
+-- how long the line at the front of a text is, if anything ends it
+abbrev pub IsLineLength : List ℕ → Option ℕ → Type 0
+IsLineLength rest r = MatchOption r (EachIndex rest (λ k. slice_index rest k ≢ line_end))
+    (λ n. (n < length rest) × (slice_index rest n ≡ line_end) × ((k : ℕ) → k < n → slice_index rest k ≢ line_end))
+
 -- what is asked of the inner step: where a line names no step, one that 11 keeps from being taken
 abbrev pub refused_as : Option Step → ℕ
 refused_as (Some step) = 0
@@ -28,13 +32,8 @@ abbrev pub asked_step : Option Step → Step
 asked_step (Some step) = step
 asked_step None = Query 0 0
 
-abbrev pub ahead : Option Step → ℕ → Ahead
-ahead names next = record { refusal = refused_as names; step = asked_step names; next = next }
-
 -- the report from the line on, whatever its number and the state, is what the line says and the report from the next line on
-pub record Next (input : List ℕ) (start : ℕ) (r : Ahead) : Type 0 where
-  pub names : Option Step
-  pub is : r ≡ ahead names r.next
-  pub behind : start < r.next
-  pub inside : r.next ≤ length input
-  pub report : (n : ℕ) (s : State) → report_from n s [] (drop start input) ≡ said_of n s names ++ report_from (suc n) (named_after report_run s names) [] (drop r.next input)
+pub record Next (input : List ℕ) (start : ℕ) (names : Option Step) (next : ℕ) : Type 0 where
+  pub behind : start < next
+  pub inside : next ≤ length input
+  pub report : (n : ℕ) (s : State) → report_from n s [] (drop start input) ≡ said_of n s names ++ report_from (suc n) (named_after report_run s names) [] (drop next input)

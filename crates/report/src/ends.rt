@@ -16,19 +16,11 @@ use table::{held, shown};
 fn count_waiting(slots: [Parcel; 8]) -> u64
     ensures { result ≡ waiting slots }
 {
-    let mut n: u64 = 0;
-    let mut i: usize = 0;
-    while i < 8 {
-        let parcel = slots[i];
-        if !is_free(parcel) {
-            n += 1;
-        }
-        i += 1;
-    }
-    n
+    slots.iter().filter(|parcel| !is_free(**parcel)).count() as u64
 }
 
 // "then the ledger"
+#[tactic(auto, using(crate::proofs::Words::ledger_long))]
 fn write_ledger(out: &mut [u8], place: usize, counts: Counts, waiting: u64) -> usize
     requires { place + length (ledger_lines counts waiting) ≤ length out.old }
     ensures { Laid out.old place (ledger_lines counts waiting) result out.new }
@@ -41,6 +33,7 @@ fn write_ledger(out: &mut [u8], place: usize, counts: Counts, waiting: u64) -> u
 }
 
 // "From now on the site line is `node=N held=H shown=S`"
+#[tactic(auto, using(crate::proofs::Counted::site_long))]
 fn write_site(out: &mut [u8], place: usize, site: usize, table: &[u64]) -> usize
     requires sound_table { SoundTable table.now }
     requires table_in_bounds { place + length (site_line site table.now) ≤ length out.old }
@@ -59,14 +52,13 @@ fn write_sites(out: &mut [u8], place: usize, words: &[u64]) -> usize
     ensures { Laid out.old place (site_lines 3 0 words.now) result out.new }
 {
     let mut next = place;
-    let mut k: usize = 0;
-    while k < 3 {
+    for k in 0..3 {
         next = write_site(out, next, k, &words[k * 16..k * 16 + 16]);
-        k += 1;
     }
     next
 }
 
+#[tactic(auto, using(crate::proofs::Counted::end_long))]
 fn write_ending(
     out: &mut [u8],
     place: usize,
@@ -82,6 +74,7 @@ fn write_ending(
 }
 
 // The same; but into an empty buffer nothing is written, and the ending is measured where no one sees it.
+// `say_line` does so with a line. One function for both is no plainer: it would take the writer as a closure, and say of that what these two say.
 pub(crate) fn say_ending(
     out: &mut [u8],
     place: usize,

@@ -19,7 +19,7 @@ fn write_end(out: &mut [u8], place: usize) -> usize
     requires { place + 1 ≤ length out.old }
     ensures { Laid out.old place (line_end ∷ []) result out.new }
 {
-    out[place] = 10;
+    out[place] = b'\n';
     place + 1
 }
 

@@ -10,6 +10,7 @@ use lengths::listed;
 use rules::{Answer, Step};
 
 // "a line for each refused step (input line counted from 1, number)"
+#[tactic(auto, using(crate::proofs::Words::refused_long))]
 fn write_refused(out: &mut [u8], place: usize, line: u64, refusal: u64) -> usize
     requires { place + length (refused_line line refusal) ≤ length out.old }
     ensures { Laid out.old place (refused_line line refusal) result out.new }
@@ -18,24 +19,18 @@ fn write_refused(out: &mut [u8], place: usize, line: u64, refusal: u64) -> usize
     write_count(out, a, b" refused=", refusal)
 }
 
-// "1 if listed else 0"
-fn present(n: u64) -> u64
-    ensures { result ≡ cond (listed n) 1 0 }
-{
-    if listed(n) { 1 } else { 0 }
-}
-
 // "and each accepted query (line, site, id, length, 1 if listed else 0)"
+#[tactic(auto, using(crate::proofs::Words::query_long))]
 fn write_query(out: &mut [u8], place: usize, line: u64, site: u64, id: u64, held: u64) -> usize
     requires { place + length (query_line line site id held) ≤ length out.old }
     ensures { Laid out.old place (query_line line site id held) result out.new }
 {
-    let p = present(held);
+    let present = u64::from(listed(held));
     let a = write_pair(out, place, b"line=", line);
     let b = write_pair(out, a, b" node=", site);
     let d = write_pair(out, b, b" id=", id);
     let e = write_pair(out, d, b" length=", held);
-    write_count(out, e, b" present=", p)
+    write_count(out, e, b" present=", present)
 }
 
 // The line of a refused step or of an accepted query; every other step says nothing.

@@ -29,29 +29,29 @@ module _ (out words left : List ℕ) (place next k : ℕ) (few : k < 3) (stands 
   behind_here w = left_next line others left_here w
 
 pub loop-k-init : goal.loop-k-init
-loop-k-init c = (omega arith, refl, c.requires.three_tables, left_all c.args.out.now c.args.place (site_lines 3 0 c.args.words.now) c.requires.words_in_bounds)
+loop-k-init c = (refl, c.requires.three_tables, left_all c.args.out.now c.args.place (site_lines 3 0 c.args.words.now) c.requires.words_in_bounds)
 
 pub slice_bounds-write_site-start : goal.slice_bounds-write_site-start
-slice_bounds-write_site-start c = omega (arith, c.loop-k.invariant.2.count)
+slice_bounds-write_site-start c = omega (arith, c.loop-k.invariant.1.count)
 
 pub slice_bounds-write_site-end : goal.slice_bounds-write_site-end
-slice_bounds-write_site-end c = omega (arith, c.loop-k.invariant.2.count)
+slice_bounds-write_site-end c = omega (arith, c.loop-k.invariant.1.count)
 
 pub write_site-next-requires : goal.write_site-next-requires
 write_site-next-requires c =
     let l = c.loop-k in
     record {
-      sound_table = rw (part_is c.args.words.now l.k) (l.invariant.2.sound l.k c.loop-k-test.true);
-      table_in_bounds = room_here c.args.out.now c.args.words.now l.out c.args.place l.next l.k c.loop-k-test.true l.invariant.3;
+      sound_table = rw (part_is c.args.words.now l.k) (l.invariant.1.sound l.k c.loop-k-test.true);
+      table_in_bounds = room_here c.args.out.now c.args.words.now l.out c.args.place l.next l.k c.loop-k-test.true l.invariant.2;
     }
 
 pub loop-k-preserved : goal.loop-k-preserved
 loop-k-preserved c =
     let l = c.loop-k in
-    (omega arith, omega (arith, c.write_site-next.auto.out, l.invariant.1), l.invariant.2, behind_here c.args.out.now c.args.words.now l.out c.args.place l.next l.k c.loop-k-test.true l.invariant.3 c.write_site-next.ensures)
+    (omega (arith, c.write_site-next.auto.out, l.invariant.0), l.invariant.1, behind_here c.args.out.now c.args.words.now l.out c.args.place l.next l.k c.loop-k-test.true l.invariant.2 c.write_site-next.ensures)
 
 pub shape_of-out : goal.shape_of-out
-shape_of-out c = c.loop-k.invariant.1
+shape_of-out c = c.loop-k.invariant.0
 
 pub returns : goal.returns
-returns c = laid_none (left_as (sites_end c.loop-k.k c.args.words.now (omega arith)) c.loop-k.invariant.3)
+returns c = laid_none (left_as (sites_end c.loop-k.k c.args.words.now (omega arith)) c.loop-k.invariant.2)

@@ -1,13 +1,18 @@
 -- From what `next_line`, `act` and `say_line` ensure to the state after one line more (`passed_line`), and from the last one to the end (`passed_end`).
-use Rattle.std.proofs.Common.{arith}
+use Rattle.std.proofs.Common.{rules, arith, ◌≡◌}
+use Rattle.rules.specs.meaning.Parcels.{no_parcel}
+use Rattle.rules.specs.meaning.Ledgers.{no_counts}
 use Rattle.rules.specs.meaning.States.{lent}
-use Rattle.report.proofs.Passing.{passed_start, line_sayable, passed_line, passed_end, end_sayable}
+use Rattle.report.proofs.Passing.{passed_begun, line_sayable, passed_line, passed_end, end_sayable}
 use Rattle.report.proofs.Counted.{three_tables}
 use Rattle.report.proofs.Saying.{still_said}
 use Rattle.report.proofs.pass.say_report.Goals as goal
 
 pub loop-start-init : goal.loop-start-init
-loop-start-init c = passed_start c.args.input.now c.args.out.now c.requires.1
+loop-start-init c =
+    let none : c.default-slots.result ≡ no_parcel = search rules in
+    let counts : c.default.result ≡ no_counts = search rules in
+    passed_begun c.args.input.now c.args.out.now c.requires.1 _ _ none counts
 
 pub act-answer-requires : goal.act-answer-requires
 act-answer-requires c = ((λ _. c.loop-start.invariant.sound), omega arith)
@@ -15,7 +20,7 @@ act-answer-requires c = ((λ _. c.loop-start.invariant.sound), omega arith)
 pub say_line-place-requires : goal.say_line-place-requires
 say_line-place-requires c =
     let l = c.loop-start in
-    line_sayable c.args.input.now c.args.out.now l.out (lent l.words l.slots l.ledger) l.n l.start l.place l.invariant c.next_line-line.result c.next_line-line.ensures
+    line_sayable c.args.input.now c.args.out.now l.out (lent l.words l.slots l.ledger) l.n l.start l.place l.invariant c.next_line-named.result.0 c.next_line-named.result.1 c.next_line-named.ensures c.asked-step.result.0 c.asked-step.ensures.step c.asked-step.result.1 c.asked-step.ensures.refused
     c.act-answer.result (lent c.act-answer.new.words c.act-answer.new.slots c.act-answer.new.ledger) c.act-answer.ensures c.requires.0
 
 pub overflow_add-n : goal.overflow_add-n
@@ -24,7 +29,7 @@ overflow_add-n c = omega (arith, c.loop-start.invariant.count, c.loop-start.inva
 pub loop-start-preserved : goal.loop-start-preserved
 loop-start-preserved c =
     let l = c.loop-start in
-    passed_line c.args.input.now c.args.out.now l.out (lent l.words l.slots l.ledger) l.n l.start l.place l.invariant c.next_line-line.result c.next_line-line.ensures
+    passed_line c.args.input.now c.args.out.now l.out (lent l.words l.slots l.ledger) l.n l.start l.place l.invariant c.next_line-named.result.0 c.next_line-named.result.1 c.next_line-named.ensures c.asked-step.result.0 c.asked-step.ensures.step c.asked-step.result.1 c.asked-step.ensures.refused
     c.act-answer.result (lent c.act-answer.new.words c.act-answer.new.slots c.act-answer.new.ledger) c.act-answer.ensures c.say_line-place.result c.say_line-place.new.out c.say_line-place.ensures c.say_line-place.auto.out
 
 pub say_ending-requires : goal.say_ending-requires
