@@ -3,12 +3,13 @@
 
 ghost use Rattle.std.specs.Prelude.{◌≡◌, replicate};
 ghost use Rattle.rules.specs.meaning.Ledgers.{begun_ledger};
+ghost use Rattle.rules.specs.meaning.Operations.{as_answer};
 ghost use Rattle.rules.specs.meaning.Parcels.{no_parcel};
 ghost use Rattle.rules.specs.meaning.States.{lent};
 ghost use Rattle.rules.specs.meaning.Runs.{Stepped};
 ghost use Rattle.kept.specs.Kept.{kept_state};
 
-use rules::{Answer, Counts, ENTRIES, Ledger, Pair, Parcel, Run, Step};
+use rules::{Counts, ENTRIES, Ledger, Pair, Parcel, Refusal, Run, Step};
 
 #[derive(Clone, Copy)]
 pub struct Kept {
@@ -21,7 +22,7 @@ pub struct Kept {
 #[derive(Clone, Copy)]
 pub struct Moved {
     pub kept: Kept,
-    pub answer: Answer,
+    pub answer: Result<u64, Refusal>,
 }
 
 // A run to begin with: no id at any site, every slot free, no count, and every link at the first serial.
@@ -46,7 +47,7 @@ pub fn fresh_kept(first: u32) -> Kept
 
 // What a step makes of a kept run, which is lent to it: the run after it, and the answer.
 pub fn step_kept(mut kept: Kept, run: Run, step: Step) -> Moved
-    ensures { Stepped run (kept_state kept) step result.answer (kept_state result.kept) }
+    ensures { Stepped run (kept_state kept) step (as_answer result.answer) (kept_state result.kept) }
 {
     let answer = sites::step(
         &mut kept.words,

@@ -9,28 +9,28 @@ use lib.ListN.{length, take, drop, get_or, length-drop, replicate}
 use Rattle.std.proofs.lemmas.List.{get_or-drop}
 use Rattle.std.proofs.lemmas.List.{take_rest}
 use lib.Seq.{slice, slice_empty, drop-length}
-use Rattle.std.specs.Prelude.{Option, Some, None}
+use Rattle.std.specs.Prelude.{Option, None, Result}
+use Rattle.rules.specs.declared.Refusal.{Refusal}
 use Rattle.rules.specs.declared.Step.{Step}
-use Rattle.rules.specs.meaning.Operations.{Answer}
+use Rattle.rules.specs.meaning.Operations.{as_answer}
 use Rattle.rules.specs.declared.Parcel.{Parcel}
 use Rattle.rules.specs.declared.Counts.{Counts}
 use Rattle.rules.specs.meaning.Parcels.{no_parcel}
 use Rattle.rules.specs.meaning.Ledgers.{no_counts}
 use Rattle.rules.specs.meaning.Links.{start_pair}
 use Rattle.rules.specs.meaning.States.{State, lent, StateSound}
-use Rattle.rules.specs.meaning.Acts.{Acted, answer_under, after_under}
 use Rattle.rules.specs.meaning.Runs.{after}
 use Rattle.rules.specs.meaning.Put.{put}
 use Rattle.rules.specs.meaning.StepLines.{step_of}
-use Rattle.rules.specs.meaning.Calls.{named_after}
-use Rattle.rules.specs.meaning.Reports.{report_run, report_start, line_end, input_limit, end_room, refused_line, end_lines, line_by, said_of, report_from, report_of}
+use Rattle.rules.specs.meaning.Calls.{named_answer, named_after}
+use Rattle.rules.specs.meaning.Reports.{report_run, report_start, line_end, input_limit, end_room, refused_line, end_lines, said_of, report_from, report_of}
 use Rattle.rules.proofs.laws.report.Fits.{report_done, report_starts, report_fits}
 use Rattle.rules.proofs.laws.report.Parts.{end_within}
 use Rattle.rules.proofs.laws.report.Places.{report_line_at, report_byte_at, report_unended_at, start_sound, state_sound}
 use Rattle.report.specs.Said.{Sayable, Said}
-use Rattle.report.specs.Ahead.{Ends, refused_as, asked_step, Next}
+use Rattle.report.specs.Ahead.{Ends, line_told, Next}
 use Rattle.report.proofs.Saying.{Still, still_all, still_as, still_next, still_sayable}
-use Rattle.report.proofs.Words.{said_none, said_step, said_short}
+use Rattle.report.proofs.Words.{said_none, said_told, said_short}
 
 -- ---- where a line ends
 -- the bytes from a place on, as the code takes them
@@ -154,34 +154,27 @@ pub passed_begun : (input first : List ℕ) → (0 < length first → length (re
     → Passed input first first (lent (replicate 48 0) (replicate 8 none) (record { counts = counts; pairs = replicate 256 (start_pair 0) })) 1 0 0
 passed_begun input first r none counts e f = rw (e, f) (passed_start input first r)
 
--- what the inner step answers and leaves is what the line says and leaves
-acted_says : (n : ℕ) (s : State) (names : Option Step) (a : Answer) (left : State) → Acted (refused_as names) report_run s (asked_step names) a left
-    → (said_of n s names ≡ line_by a.refusal n (asked_step names) a.value) × (left ≡ named_after report_run s names)
-unfolding answer_under after_under named_after
-acted_says n s (Some step) a left did = (said_step n s (Some step) step a refl did.answer, did.state)
-acted_says n s None a left did = (said_none n s None refl ∙ rw did.answer, did.state)
-
--- a line, where the inner step was asked for what the line asks for
+-- a line, where what was answered and left is what the line asks for
 module _ (input first out : List ℕ) (s : State) (n start place : ℕ) (p : Passed input first out s n start place) (names : Option Step) (next : ℕ) (ahead : Next input start names next)
-    (step : Step) (asks : step ≡ asked_step names) (refused : ℕ) (refuses : refused ≡ refused_as names) (a : Answer) (left : State) (did : Acted refused report_run s step a left) where
-  says : (said_of n s names ≡ line_by a.refusal n step a.value) × (left ≡ named_after report_run s names)
-  says = rw asks (acted_says n s names a left (rw (← refuses, ← asks) did))
+    (a : Result ℕ Refusal) (left : State) (answered : as_answer a ≡ named_answer report_run s names) (after : left ≡ named_after report_run s names) where
+  says : (said_of n s names ≡ line_told a n names) × (left ≡ named_after report_run s names)
+  says = (said_told n s names a answered, after)
 
-  line_left : Still out place (line_by a.refusal n step a.value ++ report_from (n + 1) left [] (drop next input)) (0 + length (report_of input)) (put first 0 (report_of input))
+  line_left : Still out place (line_told a n names ++ report_from (n + 1) left [] (drop next input)) (0 + length (report_of input)) (put first 0 (report_of input))
   line_left = still_as (ahead.report n s ∙ rw (says.0, says.1, add-one n)) p.left
 
-  pub line_sayable : length input ≤ input_limit → Sayable 99 out place (line_by a.refusal n step a.value)
+  pub line_sayable : length input ≤ input_limit → Sayable 99 out place (line_told a n names)
   line_sayable small =
-      still_sayable 99 (line_by a.refusal n step a.value) _ line_left
+      still_sayable 99 (line_told a n names) _ line_left
       (subst (λ (t : List ℕ). length t ≤ 99) says.0 (said_short n s names (omega (arith, p.count, p.inside))))
       (omega (arith, report_fits input small))
 
-  pub passed_line : (place' : ℕ) (after : List ℕ) → Said out place (line_by a.refusal n step a.value) place' after → length after ≡ length out → Passed input first after left (n + 1) next place'
+  pub passed_line : (place' : ℕ) (after : List ℕ) → Said out place (line_told a n names) place' after → length after ≡ length out → Passed input first after left (n + 1) next place'
   passed_line place' after w long = record {
     inside = ahead.inside;
     count = omega (arith, p.count, ahead.behind);
     sound = rw says.1 (state_sound s names p.sound);
-    left = still_next (line_by a.refusal n step a.value) _ line_left w long;
+    left = still_next (line_told a n names) _ line_left w long;
   }
 
 -- ---- the end of the input: only the end of the report is left

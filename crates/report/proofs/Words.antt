@@ -6,13 +6,18 @@ use mathlib.Core.Path.{◌≡◌, refl, sym, ap, ◌∙◌}
 use mathlib.Core.Bool.{Bool, true, false, cond}
 use mathlib.Core.List.{List, [], ◌∷◌, ◌++◌, append_assoc}
 use lib.ListN.{length, length-append}
-use Rattle.std.specs.Prelude.{Option, Some, None}
+use Rattle.std.specs.Prelude.{Option, Some, None, Result, Ok, Err}
+use Rattle.rules.specs.declared.Refusal.{Refusal}
+use Rattle.rules.specs.meaning.Refusals.{number_of}
+use Rattle.rules.specs.meaning.Calls.{named_answer}
+use Rattle.rules.proofs.laws.Determined.{numbered}
+use Rattle.report.specs.Ahead.{line_told}
 use Rattle.rules.specs.declared.Counts.{Counts}
 use Rattle.rules.specs.meaning.Operations.{Answer}
 use Rattle.rules.specs.declared.Step.{Step}
 use Rattle.rules.specs.declared.Step.TheVariants.{Add, Remove, Query, Send, Merge, Deliver, Again, Lose}
 use Rattle.rules.specs.meaning.Lengths.{listed}
-use Rattle.rules.specs.meaning.Operations.{answer}
+use Rattle.rules.specs.meaning.Operations.{answer, as_answer}
 use Rattle.rules.specs.meaning.States.{State}
 use Rattle.rules.specs.meaning.Runs.{refusal_of, value_of, answer_of}
 use Rattle.rules.specs.meaning.Kinds.{numbers, is_query}
@@ -71,7 +76,7 @@ unfolding accepted_line numbers
 asked_by r n step k e m h q = accepted_by r n step m h ∙ ap (λ (x : Step). accepted_line n x m) q
 
 -- every kind but the third says nothing
-not_query : (n : ℕ) (step : Step) (m : ℕ) → ((k e : ℕ) → step ≡ Query k e → ⊥) → accepted_line n step m ≡ []
+pub not_query : (n : ℕ) (step : Step) (m : ℕ) → ((k e : ℕ) → step ≡ Query k e → ⊥) → accepted_line n step m ≡ []
 unfolding accepted_line numbers
 not_query n (Add k e) m h = refl
 not_query n (Remove k e) m h = refl
@@ -98,6 +103,14 @@ said_none n s r e = rw e
 pub said_step : (n : ℕ) (s : State) (r : Option Step) (step : Step) (a : Answer) → r ≡ Some step → a ≡ answer_of report_run s step → said_of n s r ≡ line_by a.refusal n step a.value
 unfolding said_of
 said_step n s r step a e h = rw (e, h) (sym (line_answer (refusal_of report_run s step) (value_of report_run s step) n step))
+
+-- what was answered to a line is what the line says
+pub said_told : (n : ℕ) (s : State) (names : Option Step) (a : Result ℕ Refusal) → as_answer a ≡ named_answer report_run s names → said_of n s names ≡ line_told a n names
+unfolding said_of named_answer
+said_told n s (Some step) (Ok m) e = said_step n s (Some step) step (as_answer (Ok m)) refl e
+said_told n s (Some step) (Err r) e = let above = numbered r in said_step n s (Some step) step (as_answer (Err r)) refl e ∙ refused_by (number_of r) n step 0 (λ z. omega (arith, z))
+said_told n s None (Ok m) e = let no : ◌≡◌ {A = ℕ} 0 11 = ap (λ (x : Answer). x.refusal) e in absurd (omega (arith, no))
+said_told n s None (Err r) e = let eleven : number_of r ≡ 11 = ap (λ (x : Answer). x.refusal) e in ap (refused_line n) (sym eleven)
 
 -- ---- no line is longer than 99 bytes
 accepted_short : (n : ℕ) (step : Step) (m : ℕ) → n < 100000 → length (accepted_line n step m) ≤ 99

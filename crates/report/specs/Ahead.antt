@@ -1,11 +1,12 @@
 -- The next line of the input, which begins at a place: where it ends, what it asks for, and how the report goes on behind it.
 -- Assumes nothing.
-use Rattle.std.specs.Prelude.{ℕ, suc, ◌≤◌, ◌<◌, ◌≡◌, List, [], ◌++◌, length, drop, get_or, ◌≢◌, Option, Some, None, MatchOption, EachIndex, slice_index}
+use Rattle.std.specs.Prelude.{ℕ, suc, ◌≤◌, ◌<◌, ◌≡◌, List, [], ◌++◌, length, drop, get_or, ◌≢◌, Option, Some, None, MatchOption, EachIndex, slice_index, Result, Ok, Err}
 use Rattle.rules.specs.declared.Step.{Step}
-use Rattle.rules.specs.declared.Step.TheVariants.{Query}
+use Rattle.rules.specs.declared.Refusal.{Refusal}
+use Rattle.rules.specs.meaning.Refusals.{number_of}
 use Rattle.rules.specs.meaning.States.{State}
 use Rattle.rules.specs.meaning.Calls.{named_after}
-use Rattle.rules.specs.meaning.Reports.{report_run, line_end, said_of, report_from}
+use Rattle.rules.specs.meaning.Reports.{report_run, line_end, refused_line, accepted_line, said_of, report_from}
 
 -- the line that begins at `start` is not ended before `end`
 pub record Within (input : List ℕ) (start end : ℕ) : Type 0 where
@@ -23,14 +24,11 @@ abbrev pub IsLineLength : List ℕ → Option ℕ → Type 0
 IsLineLength rest r = MatchOption r (EachIndex rest (λ k. slice_index rest k ≢ line_end))
     (λ n. (n < length rest) × (slice_index rest n ≡ line_end) × ((k : ℕ) → k < n → slice_index rest k ≢ line_end))
 
--- what is asked of the inner step: where a line names no step, one that 11 keeps from being taken
-abbrev pub refused_as : Option Step → ℕ
-refused_as (Some step) = 0
-refused_as None = 11
-
-abbrev pub asked_step : Option Step → Step
-asked_step (Some step) = step
-asked_step None = Query 0 0
+-- what a line says, by what was answered to it: its refusal, or what its step has to say
+abbrev pub line_told : Result ℕ Refusal → ℕ → Option Step → List ℕ
+line_told (Err refusal) n names = refused_line n (number_of refusal)
+line_told (Ok value) n (Some step) = accepted_line n step value
+line_told (Ok value) n None = []
 
 -- the report from the line on, whatever its number and the state, is what the line says and the report from the next line on
 pub record Next (input : List ℕ) (start : ℕ) (names : Option Step) (next : ℕ) : Type 0 where

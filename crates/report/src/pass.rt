@@ -1,23 +1,33 @@
 // One pass over the input: its lines are run in their order, and each says what it has to say.
 ghost use Rattle.std.specs.Prelude.{◌≤◌, ◌<◌, ◌≡◌, length};
+ghost use Rattle.rules.specs.meaning.Calls.{named_answer, named_after};
+ghost use Rattle.rules.specs.meaning.Operations.{as_answer};
 ghost use Rattle.rules.specs.meaning.Reports.{report_of, input_limit};
-ghost use Rattle.report.specs.Ahead.{asked_step, refused_as};
+ghost use Rattle.rules.specs.meaning.States.{StateSound, lent};
 ghost use Rattle.report.specs.Said.{Said};
 
 use crate::ahead::next_line;
 use crate::ends::say_ending;
 use crate::said::say_line;
 use rules::{Counts, ENTRIES, Ledger, Pair, Parcel, Refusal, Run, Step};
-use sites::act;
+use sites::take;
 
-// What is asked of the inner step: where a line names no step one stands here that 11 keeps from being taken.
-fn asked(named: Option<Step>) -> (Step, u32)
-    ensures step { result.0 ≡ asked_step named }
-    ensures refused { result.1 ≡ refused_as named }
+// The step that a line names is taken; where it names none it is answered 11, and nothing changes.
+#[tactic(auto, unfolding(rules::specs::meaning::Calls::named_answer, rules::specs::meaning::Calls::named_after))]
+fn answer_to(
+    words: &mut [u64],
+    slots: &mut [Parcel],
+    ledger: &mut Ledger,
+    run: Run,
+    named: Option<Step>,
+) -> Result<u64, Refusal>
+    requires { StateSound run (lent words.old slots.old ledger.old) }
+    ensures answer { as_answer result ≡ named_answer run (lent words.old slots.old ledger.old) named }
+    ensures state { lent words.new slots.new ledger.new ≡ named_after run (lent words.old slots.old ledger.old) named }
 {
     match named {
-        Some(step) => (step, 0),
-        None => (Step::Query { site: 0, id: 0 }, Refusal::NoStep as u32),
+        Some(step) => take(words, slots, ledger, run, step, 0),
+        None => Err(Refusal::NoStep),
     }
 }
 
@@ -49,9 +59,8 @@ pub(crate) fn say_report(input: &[u8], out: &mut [u8]) -> usize
     let mut place = 0;
     while start < input.len() {
         let (named, next) = next_line(input, start);
-        let (step, refused) = asked(named);
-        let answer = act(&mut words, &mut slots, &mut ledger, run, step, refused, 0);
-        place = say_line(out, place, n, step, answer);
+        let answer = answer_to(&mut words, &mut slots, &mut ledger, run, named);
+        place = say_line(out, place, n, named, answer);
         start = next;
         n += 1;
     }

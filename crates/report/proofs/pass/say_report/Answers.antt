@@ -14,14 +14,14 @@ loop-start-init c =
     let counts : c.default.result ≡ no_counts = search rules in
     passed_begun c.args.input.now c.args.out.now c.requires.1 _ _ none counts
 
-pub act-answer-requires : goal.act-answer-requires
-act-answer-requires c = ((λ _. c.loop-start.invariant.sound), omega arith)
+pub answer_to-answer-requires : goal.answer_to-answer-requires
+answer_to-answer-requires c = c.loop-start.invariant.sound
 
 pub say_line-place-requires : goal.say_line-place-requires
 say_line-place-requires c =
     let l = c.loop-start in
-    line_sayable c.args.input.now c.args.out.now l.out (lent l.words l.slots l.ledger) l.n l.start l.place l.invariant c.next_line-named.result.0 c.next_line-named.result.1 c.next_line-named.ensures c.asked-step.result.0 c.asked-step.ensures.step c.asked-step.result.1 c.asked-step.ensures.refused
-    c.act-answer.result (lent c.act-answer.new.words c.act-answer.new.slots c.act-answer.new.ledger) c.act-answer.ensures c.requires.0
+    line_sayable c.args.input.now c.args.out.now l.out (lent l.words l.slots l.ledger) l.n l.start l.place l.invariant c.next_line-named.result.0 c.next_line-named.result.1 c.next_line-named.ensures
+    c.answer_to-answer.result (lent c.answer_to-answer.new.words c.answer_to-answer.new.slots c.answer_to-answer.new.ledger) c.answer_to-answer.ensures.answer c.answer_to-answer.ensures.state c.requires.0
 
 pub overflow_add-n : goal.overflow_add-n
 overflow_add-n c = omega (arith, c.loop-start.invariant.count, c.loop-start.invariant.inside, c.requires.0)
@@ -29,8 +29,8 @@ overflow_add-n c = omega (arith, c.loop-start.invariant.count, c.loop-start.inva
 pub loop-start-preserved : goal.loop-start-preserved
 loop-start-preserved c =
     let l = c.loop-start in
-    passed_line c.args.input.now c.args.out.now l.out (lent l.words l.slots l.ledger) l.n l.start l.place l.invariant c.next_line-named.result.0 c.next_line-named.result.1 c.next_line-named.ensures c.asked-step.result.0 c.asked-step.ensures.step c.asked-step.result.1 c.asked-step.ensures.refused
-    c.act-answer.result (lent c.act-answer.new.words c.act-answer.new.slots c.act-answer.new.ledger) c.act-answer.ensures c.say_line-place.result c.say_line-place.new.out c.say_line-place.ensures c.say_line-place.auto.out
+    passed_line c.args.input.now c.args.out.now l.out (lent l.words l.slots l.ledger) l.n l.start l.place l.invariant c.next_line-named.result.0 c.next_line-named.result.1 c.next_line-named.ensures
+    c.answer_to-answer.result (lent c.answer_to-answer.new.words c.answer_to-answer.new.slots c.answer_to-answer.new.ledger) c.answer_to-answer.ensures.answer c.answer_to-answer.ensures.state c.say_line-place.result c.say_line-place.new.out c.say_line-place.ensures c.say_line-place.auto.out
 
 pub say_ending-requires : goal.say_ending-requires
 say_ending-requires c =
