@@ -1,12 +1,12 @@
 // The eight steps: each is shown in the form of a step line, run, and its answer shown behind it.
 use kept::Kept;
-use rules::{Answer, Run, Step};
+use rules::{Refusal, Run, Step};
 use std::io;
 
-fn say(rt: &impl Print, answer: Answer) -> io::Result<()> {
-    match answer.refusal {
-        0 => println!(rt; " value={}", answer.value),
-        refusal => println!(rt; " refused={refusal}"),
+fn say(rt: &impl Print, answer: Result<u64, Refusal>) -> io::Result<()> {
+    match answer {
+        Ok(value) => println!(rt; " value={value}"),
+        Err(refusal) => println!(rt; " refused={}", refusal as u32),
     }
 }
 

@@ -1,53 +1,50 @@
 // A table with room for three ids takes adds, removes, updates and merges, and says what became of each.
 #![tactic(auto)]
 
-use rules::Answer;
+ghost use Rattle.std.specs.Prelude.{OnOk};
+ghost use Rattle.rules.specs.meaning.Table.{SoundTable};
+
+use rules::Refusal;
 use std::io;
 
 // The result of a step: `key` with the value where it was accepted, else the refusal.
-fn say(rt: &impl Print, key: &str, answer: Answer) -> io::Result<()> {
-    match answer.refusal {
-        0 => println!(rt; " {key}={}", answer.value),
-        refusal => println!(rt; " refused={refusal}"),
+fn say(rt: &impl Print, key: &str, answer: Result<u64, Refusal>) -> io::Result<()> {
+    match answer {
+        Ok(value) => println!(rt; " {key}={value}"),
+        Err(refusal) => println!(rt; " refused={}", refusal as u32),
     }
 }
 
 // The layer above a table judges it once, before a step: here, before each of them.
-const UNSOUND: Answer = Answer {
-    refusal: 2,
-    value: 0,
-};
-
-fn add(words: &mut [u64], id: u64) -> Answer {
+fn judge(words: &[u64]) -> Result<(), Refusal>
+    ensures { OnOk result (SoundTable words.now) }
+{
     if table::sound(words) {
-        table::add(words, id)
+        Ok(())
     } else {
-        UNSOUND
+        Err(Refusal::Unsound)
     }
 }
 
-fn remove(words: &mut [u64], id: u64) -> Answer {
-    if table::sound(words) {
-        table::remove(words, id)
-    } else {
-        UNSOUND
-    }
+fn add(words: &mut [u64], id: u64) -> Result<u64, Refusal> {
+    judge(words)?;
+    table::add(words, id)
 }
 
-fn absorb(words: &mut [u64], id: u64, length: u64) -> Answer {
-    if table::sound(words) {
-        table::absorb(words, id, length)
-    } else {
-        UNSOUND
-    }
+fn remove(words: &mut [u64], id: u64) -> Result<u64, Refusal> {
+    judge(words)?;
+    table::remove(words, id)
 }
 
-fn merge(words: &mut [u64], entries: &[u64]) -> Answer {
-    if table::sound(words) && table::sound(entries) {
-        merging::merge(words, entries)
-    } else {
-        UNSOUND
-    }
+fn absorb(words: &mut [u64], id: u64, length: u64) -> Result<u64, Refusal> {
+    judge(words)?;
+    table::absorb(words, id, length)
+}
+
+fn merge(words: &mut [u64], entries: &[u64]) -> Result<u64, Refusal> {
+    judge(words)?;
+    judge(entries)?;
+    merging::merge(words, entries)
 }
 
 fn show_add(rt: &impl Print, words: &mut [u64], id: u64) -> io::Result<()> {
