@@ -59,7 +59,7 @@ pub extern "C" fn wg_fresh(
     ensures { Freshened (record { sites = sites; capacity = capacity }) first (lent words.old slots.old ledger.old) result (lent words.new slots.new ledger.new) }
 {
     let run = Run { sites, capacity };
-    sites::fresh(words, slots, ledger, run, first)
+    number(sites::fresh(words, slots, ledger, run, first))
 }
 
 // One step of a run, by the four numbers of a line. Numbers that name no step are refused before anything that is lent is looked at.
@@ -80,12 +80,10 @@ pub extern "C" fn wg_step(
 {
     let Some(step) = step_for(kind, first, second, id) else {
         *value = 0;
-        return 11;
+        return Refusal::NoStep as u32;
     };
     let run = Run { sites, capacity };
-    let answer = sites::step(words, slots, ledger, run, step);
-    *value = answer.value;
-    answer.refusal
+    hand_over(sites::step(words, slots, ledger, run, step), 0, value)
 }
 
 // How far the newest serial heard on the link from one site to another is from the last one sent there. The run is only read.
@@ -103,9 +101,7 @@ pub extern "C" fn wg_lag(
     ensures { (result ≡ (lag_answer (record { sites = sites; capacity = capacity }) (lent words.now slots.now ledger.now) from to).refusal) × (lag.new ≡ (lag_answer (record { sites = sites; capacity = capacity }) (lent words.now slots.now ledger.now) from to).lag) }
 {
     let run = Run { sites, capacity };
-    let answer = sites::lag(words, slots, ledger, run, from, to);
-    *lag = answer.lag;
-    answer.refusal
+    hand_over(sites::lag(words, slots, ledger, run, from, to), 0, lag)
 }
 
 // Many steps of a run in one call, four numbers asked and two answered for each: the state is judged once.
@@ -122,7 +118,7 @@ pub extern "C" fn wg_burst(
     ensures { Handled (record { sites = sites; capacity = capacity }) (lent words.old slots.old ledger.old) asks.now answers.old result (lent words.new slots.new ledger.new) answers.new }
 {
     let run = Run { sites, capacity };
-    bursts::burst(words, slots, ledger, run, asks, answers)
+    number(bursts::burst(words, slots, ledger, run, asks, answers))
 }
 
 // A group's bytes absorbed at a site of a run: how many lengths rose. Of the run only the words of that site are written.
@@ -141,8 +137,7 @@ pub extern "C" fn wg_absorb(
 {
     let run = Run { sites, capacity };
     let answer = intake::absorb(words, slots, ledger, run, site, bytes);
-    *rose = answer.value;
-    answer.refusal
+    hand_over(answer, 0, rose)
 }
 
 // One repair round: all tables level, and how many merges that is. Of the run only the words are written.
@@ -158,9 +153,7 @@ pub extern "C" fn wg_repair(
     ensures { Happened (record { sites = sites; capacity = capacity }) (lent words.old slots.now ledger.now) round (record { refusal = result; value = merges.new }) (lent words.new slots.now ledger.now) }
 {
     let run = Run { sites, capacity };
-    let answer = rounds::repair(words, slots, ledger, run);
-    *merges = answer.value;
-    answer.refusal
+    hand_over(rounds::repair(words, slots, ledger, run), 0, merges)
 }
 
 // Bulk membership: an answer for each id, in the bits of the answers.
