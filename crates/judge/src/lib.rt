@@ -64,7 +64,13 @@ fn judge(words: &[u64], run: Run, seen: Sight) -> Result<(), Refusal>
 }
 
 // The same from the parts that a function has which is lent all three.
-pub fn judge_seen(words: &[u64], run: Run, scan: Scan, slots: usize, books: Seen) -> Result<(), Refusal>
+pub fn judge_seen(
+    words: &[u64],
+    run: Run,
+    scan: Scan,
+    slots: usize,
+    books: Seen,
+) -> Result<(), Refusal>
     ensures { number_in result ≡ judgement run words.now (seen_as scan no_parcel slots books) }
 {
     let seen = Sight {

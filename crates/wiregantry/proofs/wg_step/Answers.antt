@@ -14,5 +14,5 @@ pub returns : goal.returns
 returns c =
     let a = c.args in
     let done = called (record { sites = a.sites; capacity = a.capacity }) (lent a.words.now a.slots.now a.ledger.now) a.kind a.first a.second a.id c.in-Some.step (as_answer c.step.result)
-        (lent c.step.new.words c.step.new.slots c.step.new.ledger) (sym c.in-Some.ensures) c.step.ensures in
+    (lent c.step.new.words c.step.new.slots c.step.new.ledger) (sym c.in-Some.ensures) c.step.ensures in
     rw (c.hand_over.ensures.number, c.hand_over.ensures.value) done
