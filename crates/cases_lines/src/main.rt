@@ -10,7 +10,7 @@ use std::io::Read;
 
 // Reads until the buffer is full or the input ends, and answers how many bytes that is: where the reader's bytes are known, it took these from them, and where
 // the buffer is not full, none is left. It stands in `gantry_report` too: `tools/check-contracts` holds every public function of a library
-// to one outcome, and what a reader gives has many.
+// to one outcome, and what a reader gives has many. How much a read gives is not known before it, so no range counts the reads.
 fn read_full<R: Read>(input: &mut R, buffer: &mut [u8]) -> io::Result<usize>
     ensures bound { IfOk result (λ n. n ≤ length buffer.new) }
     ensures bytes { IfOk result (λ n. Consumes (R.remaining input.old) (R.remaining input.new) (take n buffer.new)) }

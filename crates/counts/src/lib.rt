@@ -37,7 +37,7 @@ fn raised_if(named: bool, n: u64) -> u64
     if named { one_more(n) } else { n }
 }
 
-// The counts with the named counter raised; 0, and any number above 4, names none.
+// The counts with the named counter raised; 0, and any number above 4, names none. The counter is a number, since the contract is for any.
 pub fn raised(counts: Counts, counter: u64) -> Counts
     ensures { result ≡ raised_counts M counter counts }
 {

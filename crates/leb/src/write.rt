@@ -16,7 +16,7 @@ pub fn width(n: u64) -> usize
     }
 }
 
-// Writes a number at a place, "the lowest first", and answers the place behind it.
+// Writes a number at a place, "the lowest first", and answers the place behind it. What is left of the number ends the loop, not a count of bytes.
 #[tactic(auto, using(crate::proofs::Writings::turns))]
 pub fn write_leb(out: &mut [u8], place: usize, n: u64) -> usize
     requires { place + length (leb128 n) ≤ length out.old }

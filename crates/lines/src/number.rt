@@ -28,7 +28,7 @@ pub(crate) fn read_number(line: &[u8], place: usize) -> Option<(u64, usize)>
 }
 
 // How many digits a number has. Four go with each division, as a division costs more than a comparison; a single digit, the common case of a
-// site, costs one comparison.
+// site, costs one comparison. What is left of the number ends the loop, not a count.
 #[tactic(auto, using(crate::proofs::Counts::counted))]
 pub fn places(n: u64) -> usize
     ensures { (result ≡ length (digits n)) × (result ≤ most_digits) }
@@ -50,7 +50,8 @@ pub fn places(n: u64) -> usize
     }
 }
 
-// Writes a number at a place, from its last digit to its first and two digits with each division, and answers the place behind it.
+// Writes a number at a place, from its last digit to its first and two digits with each division, and answers the place behind it. What is left
+// of the number ends the loop here too.
 #[tactic(auto, using(crate::proofs::Counts::spelled))]
 pub fn write_number(out: &mut [u8], place: usize, n: u64) -> usize
     requires { place + length (digits n) ≤ length out.old }

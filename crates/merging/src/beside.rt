@@ -9,7 +9,8 @@ use rules::Refusal;
 use tally::{FEW, count, told};
 
 // The table is filled from the back until no entry is left to join in: what is left of the table then stands in its place.
-// Where few entries go into a long table, all that is above the next one moves on first, which is foreseen.
+// Where few entries go into a long table, all that is above the next one moves on first, which is foreseen. How far a turn comes
+// is not known before it, so no range counts the turns.
 fn fill_by<const SPARSE: bool>(table: &mut [u64], entries: &[u64], left: Left)
     requires { Joining table.old entries.now (λ q. get_or table.old q 0) left.own left.others left.place }
     ensures { table.new ≡ merged table.old entries.now }

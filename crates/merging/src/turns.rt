@@ -80,7 +80,7 @@ pub(crate) fn settle(mine: u64, under: u64, kept: u64, id: u64, next: u64, lengt
     }
 }
 
-// One entry is put at a word and the one after it.
+// One entry is put at a word and the one after it. `rounds` has its like: two stores are not worth a public function.
 pub(crate) fn put(words: &mut [u64], at: usize, id: u64, length: u64)
     requires { at + 2 ≤ size words.old }
     ensures { words.new ≡ set (set words.old at id) (at + 1) length }
@@ -107,7 +107,7 @@ pub(crate) fn turn(table: &mut [u64], left: Left, id: u64, length: u64) -> Left
     left.less(now.own, now.others)
 }
 
-// All entries of the table that are above the last id that is left of the source move on, one after the other.
+// All entries of the table that are above the last id that is left of the source move on, one after the other: an id ends the loop, not a count.
 pub(crate) fn slide(table: &mut [u64], left: Left, id: u64) -> Left
     requires { (1 ≤ left.others) × (left.own ≤ left.place) × (2 * left.place ≤ size table.old) }
     ensures by_index { (t s : List ℕ) → Joining t s (λ q. get_or table.old q 0) left.own left.others left.place → id ≡ id_at s (left.others - 1) → Joining t s (λ q. get_or table.new q 0) result.own result.others result.place }

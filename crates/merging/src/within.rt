@@ -111,7 +111,8 @@ impl Places {
         }
     }
 
-    // The table is filled from the back until no entry is left to join in: what is left of the table then stands in its place.
+    // The table is filled from the back until no entry is left to join in: what is left of the table then stands in its place. A turn
+    // places one entry, four or eight.
     fn fill(self, words: &mut [u64], left: Left)
         ghost before: { List ℕ }
         requires { Filling before self.to self.from self.wide words.old left.own left.others left.place }

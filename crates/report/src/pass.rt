@@ -33,7 +33,7 @@ fn answer_to(
 
 // The whole report, at the front of a buffer that has room for it; into an empty one nothing is written, and what is returned is the report's length.
 // The run stands in locals and is lent to each step. It begins fresh and steps alone change it, so that it is sound throughout and is never judged.
-// `start` is where line n begins.
+// `start` is where line n begins, which only the line before it tells.
 pub(crate) fn say_report(input: &[u8], out: &mut [u8]) -> usize
     requires { (length input.now ≤ input_limit) × (0 < length out.old → length (report_of input.now) ≤ length out.old) }
     ensures { Said out.old 0 (report_of input.now) result out.new }

@@ -13,7 +13,7 @@ struct Passed {
     laid: usize,
 }
 
-// An entry is laid at a place.
+// An entry is laid at a place. `merging` has its like: two stores are not worth a public function.
 fn lay(out: &mut [u64], place: usize, id: u64, length: u64)
     requires { 2 * place + 2 ≤ size out.old }
     ensures { out.new ≡ set (set out.old (2 * place) id) (2 * place + 1) length }
@@ -57,7 +57,7 @@ fn turn(one: &[u64], other: &[u64], out: &mut [u64], at: Passed) -> Passed
     }
 }
 
-// Turn by turn until either has no entry left, or no place is.
+// Turn by turn until either has no entry left, or no place is. Which of the two goes on is not known before a turn.
 fn walk(one: &[u64], other: &[u64], out: &mut [u64]) -> Passed
     requires { Whole (size one.now) × Whole (size other.now) × Whole (size out.old) }
     ensures laid { Laid one.now other.now out.new result.one result.other result.laid }

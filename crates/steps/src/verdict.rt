@@ -4,7 +4,8 @@ ghost use Rattle.steps.specs.Verdicts.{plain};
 
 use rules::{NO_LINK, Pair, Parcel, Sight};
 
-// A slot number past the last slot sets nothing, nor does a link past the last entry, and counter 0 raises nothing.
+// A slot number past the last slot sets nothing, nor does a link past the last entry, and counter 0 raises nothing: `ledger::book` takes any
+// number.
 #[derive(Clone, Copy)]
 pub struct Taken {
     pub value: u64,

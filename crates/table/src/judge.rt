@@ -7,7 +7,7 @@ ghost use Rattle.table.specs.Loops.{entries_good, all_zero};
 use lengths::listed;
 use rules::M;
 
-// A number of entries: those in use where the words are a sound table, and some number where they are not.
+// A number of entries: those in use where the words are a sound table, and some number where they are not. What is left to look through is halved in each turn.
 fn used(words: &[u64]) -> usize
     ensures result_in_bounds { 2 * result ≤ length words.now }
     ensures words_value { SoundTable words.now → held words.now ≡ result }

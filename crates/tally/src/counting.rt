@@ -157,7 +157,8 @@ impl Both<'_> {
         }
     }
 
-    // The whole walk: equal stretches four at a time, all else eight turns at a time until an end is near.
+    // The whole walk: equal stretches four at a time, all else eight turns at a time until an end is near. A turn passes one
+    // entry, four or eight.
     fn walk(self) -> At
         ensures walk { Walk self.entry.table.now self.entry.entries.now result.held result.rises result.own result.others }
         ensures entries_bound { self.entry.all ≤ result.others }
