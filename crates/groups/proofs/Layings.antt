@@ -123,4 +123,3 @@ pub fits_all : (es : List ℕ) (room : ℕ) → IsGroup es → 7 * length es + 2
 fits_all es room h r = le-leb (length (group_bytes es)) room (omega (arith, group_by_words es h))
 
 pub ruleset fit = (group_few, fits_all, le-leb)
-
