@@ -45,6 +45,8 @@ module _ (t : List ℕ) (e i : ℕ) (ok : SoundTable t) (found : found_of t e �
     raising = λ n pos. sym (raised_set M t ok e n i pos facts.0 facts.1);
   }
 
+pub ruleset found = (place, its)
+
 -- ---- the id's length stands in word w
 module _ (t : List ℕ) (e w : ℕ) (ok : SoundTable t) (at : LengthWord t e w) where
   pub raise_here : (m n : ℕ) → m ≡ n → 1 ≤ n → (answer accepted m ≡ raise_answer t e n) × (set t w m ≡ raise_table t e n)

@@ -78,12 +78,13 @@ pub(crate) fn length_word(table: &[u64], id: u64) -> Option<usize>
 }
 
 // The length that the table has for an id, 0 where it has no entry.
+#[tactic(auto, using(crate::proofs::Raising::found))]
 pub fn query(table: &[u64], id: u64) -> u64
     requires { SoundTable table.now }
     ensures { result ≡ length_of table.now id }
 {
-    match length_word(table, id) {
-        Some(at) => table[at],
-        None => 0,
-    }
+    let Some(i) = lookup(table, id) else {
+        return 0;
+    };
+    table[2 * i + 1]
 }

@@ -4,7 +4,7 @@ ghost use Rattle.rules.specs.meaning.Lengths.{M, join};
 ghost use Rattle.rules.specs.meaning.Table.{SoundTable, held, length_of, held_with, raised};
 ghost use Rattle.rules.specs.meaning.Operations.{as_answer, crowded, raise_answer, raise_table, add_answer, add_table, absorb_answer, absorb_table, remove_answer, remove_table};
 
-use crate::find::{length_word, rank};
+use crate::find::{length_word, lookup, rank};
 use crate::judge::held;
 use lengths::{after_add, after_remove, join};
 use rules::Refusal;
@@ -54,16 +54,17 @@ pub fn add(table: &mut [u64], id: u64) -> Result<u64, Refusal>
 }
 
 // The id is no longer listed: an odd length rises by 1, an even one stays, and an id never held gets no entry.
+#[tactic(auto, using(crate::proofs::Raising::found))]
 pub fn remove(table: &mut [u64], id: u64) -> Result<u64, Refusal>
     requires { SoundTable table.old }
     ensures value { as_answer result ≡ remove_answer M table.old id }
     ensures table_after { table.new ≡ remove_table M table.old id }
 {
-    let Some(at) = length_word(table, id) else {
+    let Some(i) = lookup(table, id) else {
         return Ok(0);
     };
-    let unlisted = after_remove(table[at])?;
-    table[at] = unlisted;
+    let unlisted = after_remove(table[2 * i + 1])?;
+    table[2 * i + 1] = unlisted;
     Ok(unlisted)
 }
 
