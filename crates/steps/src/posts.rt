@@ -41,6 +41,7 @@ fn post(
 }
 
 // The sender's length for the id goes to another site, with the next serial of the link.
+#[tactic(auto, using(table::proofs::Raising::found, crate::proofs::Tables::part_sound))]
 pub(crate) fn on_send(
     words: &[u64],
     run: Run,
@@ -53,15 +54,15 @@ pub(crate) fn on_send(
     ensures { as_verdict seen.count result ≡ step_verdict run words.now seen (Send from to id) }
 {
     two_sites(run, from, to)?;
-    let length = table::query(&words[part_of(run, from)], id);
-    if length == 0 {
+    let own = &words[part_of(run, from)];
+    let Some(i) = table::lookup(own, id) else {
         return Err(Refusal::NothingToSend);
-    }
+    };
     let pair = seen.books.pair;
     let parcel = Parcel {
         site: to,
         id,
-        length,
+        length: own[2 * i + 1],
         sender: from as u32,
         serial: pair.next,
     };
