@@ -1,6 +1,7 @@
 -- What the shift and the or make of a byte, and the turns of the two loops.
 -- Assumes nothing.
 use Prim.Native.Nat.{ℕ, suc, ◌+◌, ◌*◌, ◌-◌, ◌%◌, ◌^◌, ◌≤◌, ◌<◌, min}
+use native.Mathlib.Nat.{mul_comm}
 use native.Mathlib.Numerals.{add-one}
 use native.Mathlib.Omega.{arith}
 use mathlib.Core.Bool.{Bool, true, false, cond}
@@ -8,8 +9,8 @@ use mathlib.Core.Path.{◌≡◌, refl, sym, ap, ◌∙◌}
 use mathlib.Core.Logic.{◌⊎◌, inl, inr}
 use mathlib.Core.List.{List, ◌∷◌}
 use lib.ListN.{length, get_or, take, drop, set, length-take, length-drop, length-set}
-use lib.Seq.{drop-drop, take_all}
-use lib.Bits.{bit_or, or_zero_r, or_shifted_r}
+use lib.Seq.{get_or-drop, drop-drop, take_all}
+use lib.Bits.{bit_and, bit_or, and_mask, or_zero_r, or_shifted_r}
 use lib.Pow.{shl_exact}
 use mir.Val.{bool_byte}
 use Rattle.rules.proofs.laws.table.Order.{lt_or_le}
@@ -23,27 +24,44 @@ shifted : (byte k : ℕ) (l : Bool) → k < 8 → byte < 2 ^ k → bit_or byte (
 shifted byte k true n h = rw (shl_exact {a = 1} 1 k 8 (omega arith) (omega arith), or_shifted_r 1 k byte h) (omega arith)
 shifted byte k false n h = let z : 0 * 2 ^ k ≡ 0 = omega arith in rw (z, or_zero_r byte) (omega arith)
 
--- ---- a byte: its answers so far are those of the first i ids
-module _ (t ids : List ℕ) (few : length ids ≤ 8) where
-  -- the bits from i on are still free
-  packed_lt : (i byte : ℕ) → i ≤ length ids → byte ≡ bits_of t (take i ids) → byte < 2 ^ i
-  packed_lt i byte l p =
-      let n : length (take i ids) ≡ i = omega (arith, length-take i ids) in
-      let b = bits_lt t (take i ids) in
-      rw p (rw n at b)
+-- the mask 7 is the remainder by 8
+pub masked : (i : ℕ) → bit_and i 7 ≡ i % 8
+masked i = and_mask i 3
 
-  pub packed_more : (i byte : ℕ) (b : Bool) → i < length ids → byte ≡ bits_of t (take i ids) → b ≡ is_member t (get_or ids i 0)
-      → bit_or byte (bool_byte b * 2 ^ i % 2 ^ 8) ≡ bits_of t (take (i + 1) ids)
-  packed_more i byte b l p q =
-      rw (add-one i, bits_more t ids i l, ← q, ← p) (shifted byte i b (omega arith) (packed_lt i byte (omega arith) p))
+-- ---- a byte: its answers so far are those of the ids from place `from` up to place i
+module _ (t ids : List ℕ) (from : ℕ) where
+  abbrev pub Packed : ℕ → ℕ → Type 0
+  Packed i byte = byte ≡ bits_of t (take (i - from) (drop from ids))
 
--- the ids of a byte: eight from its first on, or fewer where the list ends
-pub of_byte : (ids : List ℕ) (i : ℕ) → take (min (length ids) (8 * i + 8) - 8 * i) (drop (8 * i) ids) ≡ take 8 (drop (8 * i) ids)
-of_byte ids i = go (lt_or_le (length ids) (8 * i + 8))
-  where
-    go : (length ids < 8 * i + 8) ⊎ (8 * i + 8 ≤ length ids) → take (min (length ids) (8 * i + 8) - 8 * i) (drop (8 * i) ids) ≡ take 8 (drop (8 * i) ids)
-    go (inl q) = take_all _ (drop (8 * i) ids) (omega (arith, length-drop (8 * i) ids)) ∙ sym (take_all 8 (drop (8 * i) ids) (omega (arith, length-drop (8 * i) ids)))
-    go (inr q) = let k : min (length ids) (8 * i + 8) - 8 * i ≡ 8 = omega arith in rw k
+  pub packed_none : Packed from 0
+  unfolding bits_of
+  packed_none = let z : from - from ≡ 0 = omega arith in rw z
+
+  pub packed_more : (i byte : ℕ) (b : Bool) → from % 8 ≡ 0 → from ≤ i → i < min (length ids) (from + 8) → Packed i byte → b ≡ is_member t (get_or ids i 0)
+      → Packed (i + 1) (bit_or byte (bool_byte b * 2 ^ bit_and i 7 % 2 ^ 8))
+  packed_more i byte b z m l p q =
+      let w = drop from ids in
+      let k : i - from ≡ i % 8 = omega arith in
+      let s : i + 1 - from ≡ suc (i % 8) = omega arith in
+      let g : from + i % 8 ≡ i = omega arith in
+      let n : length (take (i % 8) w) ≡ i % 8 = omega (arith, length-take (i % 8) w, length-drop from ids) in
+      let here : byte ≡ bits_of t (take (i % 8) w) = rw k at p in
+      -- the bits from i mod 8 on are still free
+      let free : byte < 2 ^ (i % 8) = rw here (rw n at (bits_lt t (take (i % 8) w))) in
+      rw (s, masked i, bits_more t w (i % 8) (omega (arith, length-drop from ids)), get_or-drop from ids (i % 8) 0, g, ← q, ← here) (shifted byte (i % 8) b (omega arith) free)
+
+  pub packed_all : (i byte : ℕ) → min (length ids) (from + 8) ≤ i → i ≤ min (length ids) (from + 8) → Packed i byte → byte ≡ bits_of t (take 8 (drop from ids))
+  packed_all i byte l m p = p ∙ ap (bits_of t) (to_end (lt_or_le (length ids) (from + 8)))
+    where
+      to_end : (length ids < from + 8) ⊎ (from + 8 ≤ length ids) → take (i - from) (drop from ids) ≡ take 8 (drop from ids)
+      to_end (inl q) =
+          let n = length-drop from ids in
+          take_all (i - from) (drop from ids) (omega arith) ∙ sym (take_all 8 (drop from ids) (omega arith))
+      to_end (inr q) = let k : i - from ≡ 8 = omega arith in rw k
+
+-- eight ids to a byte: the shift by 3 loses nothing
+pub eightfold : (i : ℕ) → i < 4096 → i * 2 ^ 3 % 2 ^ 64 ≡ 8 * i
+eightfold i h = shl_exact {a = i} 12 3 64 h (omega arith) ∙ mul_comm i 8
 
 -- ---- the buffer: what is still to be put behind the bytes so far makes the whole
 module _ (t ids out : List ℕ) where

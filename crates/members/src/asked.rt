@@ -15,8 +15,7 @@ fn fill(table: &[u64], ids: &[u64], answers: &mut [u8])
     ensures { answers.new ≡ put answers.old 0 (answers_of table.now ids.now) }
 {
     for i in 0..bytes_for(ids.len()) {
-        let end = ids.len().min(8 * i + 8);
-        answers[i] = eight(table, &ids[8 * i..end]);
+        answers[i] = eight(table, ids, i << 3);
     }
 }
 
