@@ -40,3 +40,5 @@ module _ (t ids out : List ℕ) where
       kept : (k : ℕ) → (k ≡ 0 → ⊥) → out ≡ unless_refused k out (put out 0 (answers_of t ids))
       kept zero m = absurd (m refl)
       kept (suc k) m = refl
+
+pub ruleset verdicts = (accepted, written, untouched)

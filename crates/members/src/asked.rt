@@ -20,6 +20,7 @@ fn fill(table: &[u64], ids: &[u64], answers: &mut [u8])
 }
 
 // Answer i in bit i mod 8 of byte i / 8. The table is judged once, and each id is looked up once.
+#[tactic(auto, using(crate::proofs::Refusing::verdicts))]
 pub fn members(table: &[u64], ids: &[u64], answers: &mut [u8]) -> Result<(), Refusal>
     ensures { Answered table.now ids.now answers.old (number_in result) answers.new }
 {
