@@ -24,6 +24,7 @@ pub fn after_add(length: u64) -> u64
 }
 
 // The length after a remove, refused where that is above the largest.
+#[tactic(auto, using(crate::proofs::Removing::removed))]
 pub fn after_remove(length: u64) -> Result<u64, Refusal>
     ensures { as_answer result ≡ removed_length M length }
 {
