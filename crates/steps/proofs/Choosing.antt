@@ -1,7 +1,8 @@
--- A step that leaves the words; and that what a step comes to is determined by its verdict.
+-- What refused a step before it was looked at is its refusal; where nothing did, the step's own tests decide. A step that leaves the words; and that what
+-- a step comes to is determined by its verdict.
 -- Assumes nothing.
 use Rattle.std.specs.Prelude.{◌≡◌, ℕ, zero, suc, List, Result, Ok, Err}
-use Rattle.std.proofs.Common.{refl, ap, arith}
+use Rattle.std.proofs.Common.{refl, sym, ap, arith}
 use Rattle.rules.specs.declared.Refusal.{Refusal}
 use Rattle.rules.specs.declared.Run.{Run}
 use Rattle.rules.specs.declared.Sight.{Sight}
@@ -10,7 +11,25 @@ use Rattle.rules.specs.meaning.Operations.{unless_refused}
 use Rattle.rules.specs.meaning.Steps.{effect}
 use Rattle.rules.proofs.laws.Determined.{numbered, numbers_apart}
 use Rattle.steps.specs.declared.verdict.Taken.{Taken}
-use Rattle.steps.specs.Verdicts.{Verdict, as_verdict, step_refusal, step_words}
+use Rattle.steps.specs.Verdicts.{Verdict, as_verdict, refused_verdict, step_refusal, step_verdict, step_words, verdict_under, words_under}
+
+module _ (run : Run) (ws : List ℕ) (si : Sight) (step : Step) where
+  -- refused before
+  pub under_out : (r : ℕ) → (r ≡ 0 → ⊥) → (refused_verdict r si.count ≡ verdict_under r run ws si step) × (ws ≡ words_under r run ws si step)
+  unfolding verdict_under words_under
+  under_out zero h = absurd (h refl)
+  under_out (suc r) h = (refl, refl)
+
+  -- refused by nothing before
+  pub under_in : (r : ℕ) → r ≡ 0 → (step_verdict run ws si step ≡ verdict_under r run ws si step) × (step_words run ws si step ≡ words_under r run ws si step)
+  unfolding verdict_under words_under
+  under_in r h = rw h (refl, refl)
+
+  pub words_out : (r : ℕ) → (r ≡ 0 → ⊥) → words_under r run ws si step ≡ ws
+  words_out r h = sym (under_out r h).1
+
+  pub words_in : (r : ℕ) → r ≡ 0 → words_under r run ws si step ≡ step_words run ws si step
+  words_in r h = sym (under_in r h).1
 
 pub still_words : (run : Run) (ws : List ℕ) (si : Sight) (step : Step) → (effect run ws si step).gain.words ≡ ws → ws ≡ step_words run ws si step
 still_words run ws si step h = rw h (go (step_refusal run ws si step))

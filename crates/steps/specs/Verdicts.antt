@@ -81,6 +81,15 @@ step_words run ws si step = unless_refused (step_refusal run ws si step) ws (eff
 abbrev pub looked_at : ℕ → Parcel → ℕ → Seen → Sight
 looked_at free held slots books = seen_as (record { sound = true; waiting = 0; free = free }) held slots books
 
+-- a step that something has refused with a number before, or with 0 where nothing has
+unfoldable pub verdict_under : ℕ → Run → List ℕ → Sight → Step → Verdict
+verdict_under zero run ws si step = step_verdict run ws si step
+verdict_under (suc r) run ws si step = refused_verdict (suc r) si.count
+
+unfoldable pub words_under : ℕ → Run → List ℕ → Sight → Step → List ℕ
+words_under zero run ws si step = step_words run ws si step
+words_under (suc r) run ws si step = ws
+
 -- what a verdict answers
 abbrev pub answer_in : Verdict → Answer
 answer_in v = record { refusal = v.refusal; value = v.value }

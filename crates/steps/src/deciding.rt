@@ -1,6 +1,7 @@
 // What a step comes to once the state is judged: the step's own tests are made and the words changed. Everything here is by value but the words.
 ghost use Rattle.std.specs.Prelude.{◌≡◌};
-ghost use Rattle.steps.specs.Verdicts.{Ready, as_verdict, looked_at, step_verdict, step_words};
+ghost use Rattle.rules.specs.meaning.Refusals.{number_in};
+ghost use Rattle.steps.specs.Verdicts.{Ready, as_verdict, looked_at, step_verdict, step_words, verdict_under, words_under};
 
 use crate::deliver::on_deliver;
 use crate::merges::on_merge;
@@ -55,4 +56,26 @@ pub fn resolve(
         books,
     };
     take(words, run, seen, step)
+}
+
+// The same, unless something has refused the step before: then it is refused with that.
+#[tactic(auto, using(crate::proofs::Choosing::under_out, crate::proofs::Choosing::under_in, crate::proofs::Choosing::words_out, crate::proofs::Choosing::words_in))]
+pub fn decide(
+    words: &mut [u64],
+    run: Run,
+    free: usize,
+    held: Parcel,
+    slots: usize,
+    books: Seen,
+    step: Step,
+    refused: Result<(), Refusal>,
+) -> Result<Taken, Refusal>
+    requires { number_in refused ≡ 0 → Ready run words.old }
+    ensures value { as_verdict slots result ≡ verdict_under (number_in refused) run words.old (looked_at free held slots books) step }
+    ensures words_after { words.new ≡ words_under (number_in refused) run words.old (looked_at free held slots books) step }
+{
+    if let Err(refusal) = refused {
+        return Err(refusal);
+    }
+    resolve(words, run, free, held, slots, books, step)
 }

@@ -12,7 +12,7 @@ mod places;
 mod posts;
 mod verdict;
 
-pub use deciding::resolve;
+pub use deciding::{decide, resolve};
 pub use looks::{link_of, needs_slot, slot_of};
 pub use low::low_after;
 pub use places::part_of;
