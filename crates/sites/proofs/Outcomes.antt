@@ -8,7 +8,7 @@ use mathlib.Core.Bool.{Bool, cond}
 use mathlib.Core.Path.{◌≡◌, refl, sym, ap, ◌∙◌}
 use mathlib.Core.List.{List}
 use lib.ListN.{length, set, get_or}
-use Rattle.rules.specs.meaning.Operations.{as_answer}
+use Rattle.rules.specs.meaning.Operations.{Answer, as_answer}
 use Rattle.rules.specs.declared.Ledger.{Ledger}
 use Rattle.rules.specs.declared.Parcel.{Parcel}
 use Rattle.rules.specs.declared.Run.{Run}
@@ -27,17 +27,16 @@ use Rattle.rules.specs.meaning.States.{State, lent, sight_of, StateSound}
 use Rattle.rules.specs.meaning.Kinds.{slot_of, link_of, numbers, takes_slot}
 use Rattle.rules.specs.meaning.Runs.{refusal_in, refusal_of, value_of, after, Stepped}
 use Rattle.rules.specs.declared.Refusal.{Refusal}
-use Rattle.rules.specs.meaning.Refusals.{number_of}
 use Rattle.rules.proofs.laws.Determined.{numbered}
 use Rattle.std.specs.Prelude.{Ok, Err}
 use Rattle.steps.specs.declared.verdict.Taken.{Taken}
 use Rattle.rules.proofs.laws.run.Steps.{sound_judged}
 use Rattle.judge.specs.Judged.{seen_as, judgement}
-use Rattle.steps.specs.Verdicts.{Verdict, as_verdict, Ready, step_refusal, step_verdict, step_words, verdict_by, looked_at, answer_in}
+use Rattle.steps.specs.Verdicts.{Verdict, as_verdict, Ready, step_refusal, step_verdict, step_words, verdict_by, looked_at, verdict_under, words_under, answer_in}
 use Rattle.rules.proofs.laws.run.Acts.{judged_first}
 use Rattle.rules.specs.meaning.Steps.{effect}
 use Rattle.rules.specs.meaning.Lags.{lag_in, lag_answer}
-use Rattle.rules.specs.meaning.Acts.{judged_of}
+use Rattle.rules.specs.meaning.Acts.{judged_of, answer_under, after_under, Acted}
 use Rattle.judge.proofs.Judging.{sized}
 
 module _ (run : Run) (ws : List ℕ) (ss : List Parcel) (l : Ledger) (step : Step) where
@@ -63,7 +62,7 @@ module _ (run : Run) (ws : List ℕ) (ss : List Parcel) (l : Ledger) (step : Ste
     state = rw (f, z) refl;
   }
 
--- a step sees as much through what `take` looks at as through a pass over all the slots and all the links
+-- a step sees as much through what `act` looks at as through a pass over all the slots and all the links
 module _ (run : Run) (ws : List ℕ) (ss : List Parcel) (l : Ledger) where
   abbrev seen : Step → ℕ → Sight
   seen step free = looked_at free (get_or ss (slot_of step) no_parcel) (length ss) (seen_of 0 (link_of run.sites (get_or ss (slot_of step) no_parcel) step) l)
@@ -84,30 +83,53 @@ module _ (run : Run) (ws : List ℕ) (ss : List Parcel) (l : Ledger) where
   same_sight (Again i) free h = rw h (refl, refl)
   same_sight (Lose i) free h = (refl, refl)
 
--- what is sound is ready for `resolve`
-pub sound_ready : (run : Run) (ws : List ℕ) (ss : List Parcel) (l : Ledger) → StateSound run (lent ws ss l) → Ready run ws
-sound_ready run ws ss l sound = record { sized = sized run (length ws) (length ss) sound.0; tables = sound.1 }
+-- by what has refused the step before
+module _ (run : Run) (ws : List ℕ) (ss : List Parcel) (l : Ledger) (step : Step) (si : Sight) where
+  -- what is seen of the state comes to what the state does
+  abbrev Shown : Type 0
+  Shown = (step_verdict run ws si step ≡ verdict_by (refusal_in run ws (sight_of run (lent ws ss l) step) step) run ws (sight_of run (lent ws ss l) step) step)
+      × (step_words run ws si step ≡ unless_refused (refusal_in run ws (sight_of run (lent ws ss l) step) step) ws (effect run ws (sight_of run (lent ws ss l) step) step).gain.words)
 
--- ---- one step in a sound state, from what its callees ensure
-module _ (sizes : Run) (ws : List ℕ) (ss : List Parcel) (l : Ledger) (asked : Step) (at : ℕ) (held : Parcel) (wanted : Bool) (free link : ℕ) (books : Seen) (sound : StateSound sizes (lent ws ss l))
+  took_by : (before : ℕ) → (before ≡ 0 → Shown) → (t : Taken) → as_verdict (length ss) (Ok t) ≡ verdict_under before run ws si step → (ws' : List ℕ) → ws' ≡ words_under before run ws si step
+      → Acted before run (lent ws ss l) step (as_answer (Ok t.value)) (lent ws' (set ss t.at t.parcel) (booked_ledger M t.counter t.link t.pair l))
+  unfolding verdict_under words_under answer_under after_under
+  took_by zero same t e ws' f =
+      let did = by_accepted run ws ss l step (refusal_of run (lent ws ss l) step) refl (as_verdict (length ss) (Ok t)) refl (e ∙ (same refl).0) ws' (f ∙ (same refl).1) in
+      record { answer = did.answer; state = did.state }
+  took_by (suc r) same t e ws' f = absurd (let k : ◌≡◌ {A = ℕ} 0 (suc r) = ap (λ (v : Verdict). v.refusal) e in omega arith)
+
+  refused_by : (before : ℕ) → (before ≡ 0 → Shown) → (n : Refusal) → as_verdict (length ss) (Err n) ≡ verdict_under before run ws si step → (ws' : List ℕ) → ws' ≡ words_under before run ws si step
+      → Acted before run (lent ws ss l) step (as_answer (Err n)) (lent ws' ss l)
+  unfolding verdict_under words_under answer_under after_under
+  refused_by zero same n e ws' f =
+      let did = by_refused run ws ss l step (refusal_of run (lent ws ss l) step) refl (as_verdict (length ss) (Err n)) (λ z. let k = numbered n in omega (arith, z)) (e ∙ (same refl).0) ws' (f ∙ (same refl).1) in
+      record { answer = did.answer; state = did.state }
+  refused_by (suc r) same n e ws' f = record { answer = ap answer_in e; state = rw f refl }
+
+-- what is sound is ready for `decide`
+pub clear_ready : (refused : ℕ) (run : Run) (ws : List ℕ) (ss : List Parcel) (l : Ledger) → (refused ≡ 0 → StateSound run (lent ws ss l)) → refused ≡ 0 → Ready run ws
+clear_ready refused run ws ss l clear z = record { sized = sized run (length ws) (length ss) (clear z).0; tables = (clear z).1 }
+
+-- ---- one step, from what its callees ensure
+module _ (before : ℕ) (sizes : Run) (ws : List ℕ) (ss : List Parcel) (l : Ledger) (asked : Step) (at : ℕ) (held : Parcel) (wanted : Bool) (free link : ℕ) (books : Seen) (clear : before ≡ 0 → StateSound sizes (lent ws ss l))
     (e₁ : at ≡ slot_of asked) (e₂ : held ≡ get_or ss at no_parcel) (e₃ : wanted ≡ takes_slot asked) (e₄ : free ≡ cond wanted (lowest_free ss) 0)
     (e₅ : link ≡ link_of sizes.sites held asked) (e₆ : books ≡ seen_of 0 link l) where
-  own : refusal_in sizes ws (sight_of sizes (lent ws ss l) asked) asked ≡ step_refusal sizes ws (sight_of sizes (lent ws ss l) asked) asked
+  own : before ≡ 0 → refusal_in sizes ws (sight_of sizes (lent ws ss l) asked) asked ≡ step_refusal sizes ws (sight_of sizes (lent ws ss l) asked) asked
   unfolding refusal_of step_refusal
-  own = sound_judged sizes (lent ws ss l) asked sound
+  own z = sound_judged sizes (lent ws ss l) asked (clear z)
 
-  same : (step_verdict sizes ws (looked_at free held (length ss) books) asked ≡ verdict_by (refusal_in sizes ws (sight_of sizes (lent ws ss l) asked) asked) sizes ws (sight_of sizes (lent ws ss l) asked) asked)
+  same : before ≡ 0 → (step_verdict sizes ws (looked_at free held (length ss) books) asked ≡ verdict_by (refusal_in sizes ws (sight_of sizes (lent ws ss l) asked) asked) sizes ws (sight_of sizes (lent ws ss l) asked) asked)
       × (step_words sizes ws (looked_at free held (length ss) books) asked ≡ unless_refused (refusal_in sizes ws (sight_of sizes (lent ws ss l) asked) asked) ws (effect sizes ws (sight_of sizes (lent ws ss l) asked) asked).gain.words)
-  same = rw (own, e₆, e₅, e₂, e₁) (same_sight sizes ws ss l asked free (rw e₃ at e₄))
+  same z = rw (own z, e₆, e₅, e₂, e₁) (same_sight sizes ws ss l asked free (rw e₃ at e₄))
 
-  pub took : (t : Taken) (ws' : List ℕ) (ss' : List Parcel) (l' : Ledger) → as_verdict (length ss) (Ok t) ≡ step_verdict sizes ws (looked_at free held (length ss) books) asked
-      → ws' ≡ step_words sizes ws (looked_at free held (length ss) books) asked → l' ≡ booked_ledger M t.counter t.link t.pair l → ss' ≡ set ss t.at t.parcel
-      → Stepped sizes (lent ws ss l) asked (as_answer (Ok t.value)) (lent ws' ss' l')
-  took t ws' ss' l' e f g h = rw (g, h) (by_accepted sizes ws ss l asked (refusal_of sizes (lent ws ss l) asked) refl (as_verdict (length ss) (Ok t)) refl (e ∙ same.0) ws' (f ∙ same.1))
+  pub took : (t : Taken) (ws' : List ℕ) (ss' : List Parcel) (l' : Ledger) → as_verdict (length ss) (Ok t) ≡ verdict_under before sizes ws (looked_at free held (length ss) books) asked
+      → ws' ≡ words_under before sizes ws (looked_at free held (length ss) books) asked → l' ≡ booked_ledger M t.counter t.link t.pair l → ss' ≡ set ss t.at t.parcel
+      → Acted before sizes (lent ws ss l) asked (as_answer (Ok t.value)) (lent ws' ss' l')
+  took t ws' ss' l' e f g h = rw (g, h) (took_by sizes ws ss l asked (looked_at free held (length ss) books) before same t e ws' f)
 
-  pub refused : (n : Refusal) (ws' : List ℕ) → as_verdict (length ss) (Err n) ≡ step_verdict sizes ws (looked_at free held (length ss) books) asked
-      → ws' ≡ step_words sizes ws (looked_at free held (length ss) books) asked → Stepped sizes (lent ws ss l) asked (as_answer (Err n)) (lent ws' ss l)
-  refused n ws' e f = by_refused sizes ws ss l asked (refusal_of sizes (lent ws ss l) asked) refl (as_verdict (length ss) (Err n)) (λ z. let k = numbered n in omega (arith, z)) (e ∙ same.0) ws' (f ∙ same.1)
+  pub refused : (n : Refusal) (ws' : List ℕ) → as_verdict (length ss) (Err n) ≡ verdict_under before sizes ws (looked_at free held (length ss) books) asked
+      → ws' ≡ words_under before sizes ws (looked_at free held (length ss) books) asked → Acted before sizes (lent ws ss l) asked (as_answer (Err n)) (lent ws' ss l)
+  refused n ws' e f = refused_by sizes ws ss l asked (looked_at free held (length ss) books) before same n e ws' f
 
 -- ---- the judge before the step
 -- the judge, from what it was handed
@@ -120,19 +142,13 @@ judged_all run ws ss l scan books judged e b f = rw (e, b) at f
 pub scanned_low : (sites : ℕ) (ss : List Parcel) (scan : Scan) → scan ≡ scan_of M sites ss → scan.free ≤ lowest_free ss
 scanned_low sites ss scan e = rw e (le_refl (lowest_free ss))
 
-unmoved : (run : Run) (s : State) (step : Step) (k : ℕ) → refusal_of run s step ≡ suc k → s ≡ after run s step
-unfolding after
-unmoved run s step k e = rw e refl
-
--- what it refuses, it refuses each step
-pub judged_step : (run : Run) (s : State) (step : Step) (n : Refusal) → number_of n ≡ judged_of run s → Stepped run s step (as_answer (Err n)) s
-judged_step run s step n e = go (number_of n) refl
-  where
-    go : (k : ℕ) → number_of n ≡ k → Stepped run s step (as_answer (Err n)) s
-    go zero z = absurd (let k = numbered n in omega arith)
-    go (suc k) z =
-        let first : refusal_of run s step ≡ suc k = judged_first run s step k (sym e ∙ z) in
-        record { answer = rw (z, first) refl; state = unmoved run s step k first }
+-- what the judge refuses, it refuses each step
+pub judged_step : (run : Run) (s : State) (step : Step) (judged : ℕ) (r : Answer) (left : State) → judged ≡ judged_of run s → Acted judged run s step r left → Stepped run s step r left
+unfolding answer_under after_under after
+judged_step run s step zero r left e did = record { answer = did.answer; state = did.state }
+judged_step run s step (suc k) r left e did =
+    let first : refusal_of run s step ≡ suc k = judged_first run s step k (sym e) in
+    record { answer = did.answer ∙ rw first refl; state = did.state ∙ rw first refl }
 
 -- ---- the lag query
 pub lagged : (run : Run) (ws : List ℕ) (ss : List Parcel) (l : Ledger) (from to : ℕ) (scan : Scan) (link : ℕ) (books : Seen) (r : Lag) → scan ≡ scan_of M run.sites ss → link ≡ link_between run.sites from to

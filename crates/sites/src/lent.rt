@@ -2,7 +2,7 @@
 ghost use Rattle.std.specs.Prelude.{◌≡◌};
 ghost use Rattle.rules.specs.meaning.States.{lent};
 ghost use Rattle.rules.specs.meaning.Runs.{Stepped, Freshened};
-ghost use Rattle.rules.specs.meaning.Acts.{Standing};
+ghost use Rattle.rules.specs.meaning.Acts.{Clear, Acted, Standing};
 ghost use Rattle.rules.specs.meaning.Lags.{as_lag, lag_answer};
 ghost use Rattle.rules.specs.meaning.Operations.{as_answer};
 ghost use Rattle.rules.specs.meaning.Refusals.{number_in};
@@ -13,13 +13,37 @@ use ledger::{book, see, start};
 use links::link_between;
 use parcels::{clear_slots, lowest_free, read_slot, scan_slots, store_slot};
 use rules::{Ledger, NO_LINK, Parcel, Refusal, Run, Step};
-use steps::{link_of, needs_slot, resolve, slot_of};
+use steps::{decide, link_of, needs_slot, slot_of};
 
 // The inner step judges no link: of no sites none is looked at.
 const NO_SITES: u64 = 0;
 
-// One step in a sound state. It judges nothing, and sees no more of the slots than the step needs: the one that it names and, for a new parcel, those from
-// `low` on up to the lowest free one; and of the ledger the counts and the entry of its link. A refused one has stored nothing.
+// One step in a state that is sound, or one that something has refused before. It judges nothing, and sees no more of the slots than the step needs: the
+// one that it names and, for a new parcel, those from `low` on up to the lowest free one; and of the ledger the counts and the entry of its link. A refused
+// one has stored nothing.
+pub fn act(
+    words: &mut [u64],
+    slots: &mut [Parcel],
+    ledger: &mut Ledger,
+    run: Run,
+    step: Step,
+    refused: Result<(), Refusal>,
+    low: usize,
+) -> Result<u64, Refusal>
+    requires { Clear (number_in refused) low run (lent words.old slots.old ledger.old) }
+    ensures { Acted (number_in refused) run (lent words.old slots.old ledger.old) step (as_answer result) (lent words.new slots.new ledger.new) }
+{
+    let held = read_slot(slots, slot_of(step));
+    let free = lowest_free(slots, needs_slot(step), low);
+    let books = see(ledger, NO_SITES, link_of(step, held, run.sites));
+    let taken = decide(words, run, free, held, slots.len(), books, step, refused)?;
+    book(ledger, taken.counter, taken.link, taken.pair);
+    store_slot(slots, taken.at, taken.parcel);
+    Ok(taken.value)
+}
+
+// One step in a sound state.
+#[tactic(auto, unfolding(rules::specs::meaning::Acts::answer_under, rules::specs::meaning::Acts::after_under))]
 pub fn take(
     words: &mut [u64],
     slots: &mut [Parcel],
@@ -31,13 +55,7 @@ pub fn take(
     requires { Standing low run (lent words.old slots.old ledger.old) }
     ensures { Stepped run (lent words.old slots.old ledger.old) step (as_answer result) (lent words.new slots.new ledger.new) }
 {
-    let held = read_slot(slots, slot_of(step));
-    let free = lowest_free(slots, needs_slot(step), low);
-    let books = see(ledger, NO_SITES, link_of(step, held, run.sites));
-    let taken = resolve(words, run, free, held, slots.len(), books, step)?;
-    book(ledger, taken.counter, taken.link, taken.pair);
-    store_slot(slots, taken.at, taken.parcel);
-    Ok(taken.value)
+    act(words, slots, ledger, run, step, Ok(()), low)
 }
 
 // One step of a run: the state is judged, and the step taken.
@@ -52,8 +70,8 @@ pub fn step(
 {
     let scan = scan_slots(slots, run.sites);
     let books = see(ledger, run.sites, NO_LINK);
-    judge_seen(words, run, scan, slots.len(), books)?;
-    take(words, slots, ledger, run, step, scan.free)
+    let judged = judge_seen(words, run, scan, slots.len(), books);
+    act(words, slots, ledger, run, step, judged, scan.free)
 }
 
 // A fresh run: no id at any site, no parcel, no count, and each link at the first serial. The sizes are judged, and nothing else.

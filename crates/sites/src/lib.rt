@@ -6,4 +6,4 @@
 mod lags;
 mod lent;
 
-pub use lent::{fresh, lag, step, take};
+pub use lent::{act, fresh, lag, step, take};
