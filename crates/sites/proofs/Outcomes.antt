@@ -28,7 +28,7 @@ use Rattle.rules.specs.meaning.Kinds.{slot_of, link_of, numbers, takes_slot}
 use Rattle.rules.specs.meaning.Runs.{refusal_in, refusal_of, value_of, after, Stepped}
 use Rattle.rules.specs.declared.Refusal.{Refusal}
 use Rattle.rules.proofs.laws.Determined.{numbered}
-use Rattle.std.specs.Prelude.{Ok, Err}
+use Rattle.std.specs.Prelude.{Result, Ok, Err}
 use Rattle.steps.specs.declared.verdict.Taken.{Taken}
 use Rattle.rules.proofs.laws.run.Steps.{sound_judged}
 use Rattle.judge.specs.Judged.{seen_as, judgement}
@@ -122,14 +122,14 @@ module _ (before : ℕ) (sizes : Run) (ws : List ℕ) (ss : List Parcel) (l : Le
       × (step_words sizes ws (looked_at free held (length ss) books) asked ≡ unless_refused (refusal_in sizes ws (sight_of sizes (lent ws ss l) asked) asked) ws (effect sizes ws (sight_of sizes (lent ws ss l) asked) asked).gain.words)
   same z = rw (own z, e₆, e₅, e₂, e₁) (same_sight sizes ws ss l asked free (rw e₃ at e₄))
 
-  pub took : (t : Taken) (ws' : List ℕ) (ss' : List Parcel) (l' : Ledger) → as_verdict (length ss) (Ok t) ≡ verdict_under before sizes ws (looked_at free held (length ss) books) asked
+  pub took : (told : Result Taken Refusal) (t : Taken) (ws' : List ℕ) (ss' : List Parcel) (l' : Ledger) → told ≡ Ok t → as_verdict (length ss) told ≡ verdict_under before sizes ws (looked_at free held (length ss) books) asked
       → ws' ≡ words_under before sizes ws (looked_at free held (length ss) books) asked → l' ≡ booked_ledger M t.counter t.link t.pair l → ss' ≡ set ss t.at t.parcel
       → Acted before sizes (lent ws ss l) asked (as_answer (Ok t.value)) (lent ws' ss' l')
-  took t ws' ss' l' e f g h = rw (g, h) (took_by sizes ws ss l asked (looked_at free held (length ss) books) before same t e ws' f)
+  took told t ws' ss' l' is e f g h = rw (g, h) (took_by sizes ws ss l asked (looked_at free held (length ss) books) before same t (rw is at e) ws' f)
 
-  pub refused : (n : Refusal) (ws' : List ℕ) → as_verdict (length ss) (Err n) ≡ verdict_under before sizes ws (looked_at free held (length ss) books) asked
+  pub refused : (told : Result Taken Refusal) (n : Refusal) (ws' : List ℕ) → told ≡ Err n → as_verdict (length ss) told ≡ verdict_under before sizes ws (looked_at free held (length ss) books) asked
       → ws' ≡ words_under before sizes ws (looked_at free held (length ss) books) asked → Acted before sizes (lent ws ss l) asked (as_answer (Err n)) (lent ws' ss l)
-  refused n ws' e f = refused_by sizes ws ss l asked (looked_at free held (length ss) books) before same n e ws' f
+  refused told n ws' is e f = refused_by sizes ws ss l asked (looked_at free held (length ss) books) before same n (rw is at e) ws' f
 
 -- ---- the judge before the step
 -- the judge, from what it was handed
