@@ -1,4 +1,4 @@
--- From what the callees of `lent` ensure to what `lent` ensures: the one place that knows how the contracts of `act`, `step` and `fresh` are put.
+-- From what the callees of `lent` ensure to what `lent` ensures: the one place that knows how the contracts of `act`, `step` and `lag` are put.
 -- The callees' results are variables here, each with what its contract says of it.
 -- Assumes nothing.
 use Prim.Native.Nat.{ℕ, zero, suc, ◌≤◌}

@@ -1,4 +1,4 @@
--- From what `next_line`, `act` and `say_line` ensure to the state after one line more (`passed_line`), and from the last one to the end (`passed_end`).
+-- From what `next_line`, `answer_to` and `say_line` ensure to the state after one line more (`passed_line`), and from the last one to the end (`passed_end`).
 use Rattle.std.proofs.Common.{rules, arith, ◌≡◌}
 use Rattle.rules.specs.meaning.Parcels.{no_parcel}
 use Rattle.rules.specs.meaning.Ledgers.{no_counts}
