@@ -29,6 +29,8 @@ pub(crate) fn absorb_seen(
         return Err(Refusal::NoSite);
     }
     let mut group = [0u64; GROUP_WORDS];
-    let count = read_group(bytes, &mut group)?;
+    let Ok(count) = read_group(bytes, &mut group) else {
+        return Err(Refusal::NoGroup);
+    };
     merge(&mut words[part_of(run, site)], &group[..2 * count])
 }
